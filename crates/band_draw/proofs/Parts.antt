@@ -15,7 +15,7 @@ use Rattle.sub_base.specs.declared.colour.Colour.{Colour}
 use Rattle.page_core.specs.Memory.{Memory}
 use Rattle.page_core.specs.Rows.{picture_in, row_in}
 use Rattle.band_draw.proofs.Pictures.{row_stands}
-use Rattle.band_draw.specs.Bands.{IsPart, IsBand}
+use Rattle.band_draw.specs.Bands.{IsPlanePart, IsBand}
 
 -- the number of the first row of a band
 pub first_row : (memory : Memory) (start size width : ℕ) → IsBand memory start size

@@ -6,8 +6,8 @@ use Rattle.page_core.specs.Memory.{Memory}
 use Rattle.page_core.specs.Rows.{picture_in}
 
 -- a part of the plane with so many places, the first of which has that number, has the colours of the picture
-abbrev pub IsPart : Memory → ℕ → ℕ → List Colour → Type 0
-IsPart memory start size part =
+abbrev pub IsPlanePart : Memory → ℕ → ℕ → List Colour → Type 0
+IsPlanePart memory start size part =
     (k : ℕ) → k < size → slice_index_or part k clear ≡ slice_index_or (picture_in memory) (start + k) clear
 
 -- a part of the plane with so many places, the first of which has that number, is whole rows of the picture

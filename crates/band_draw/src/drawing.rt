@@ -3,7 +3,7 @@
 
 ghost use Rattle.std.specs.Prelude.{◌≡◌, ◌<◌, ◌≤◌, ◌*◌, ◌^◌, ◌/◌, length};
 ghost use Rattle.page_core.specs.Rows.{picture_in};
-ghost use Rattle.band_draw.specs.Bands.{IsBand, IsPart};
+ghost use Rattle.band_draw.specs.Bands.{IsBand, IsPlanePart};
 
 use page_core::Scene;
 use std::thread;
@@ -38,7 +38,7 @@ pub fn draw<R: Threads + Sync, G: BandGate + Sync>(
         &|start: usize, part: &mut [Colour]|
             requires { IsBand scene.now start (length part.now) × (0 < size)
                 × (start < 2 ^ 32 * size) }
-            ensures { IsPart scene.entry.now start (length part.entry.now) part.exit.now }
+            ensures { IsPlanePart scene.entry.now start (length part.entry.now) part.exit.now }
         {
             gate.enter(band_at(start, size));
             band_into(scene, start, part)
@@ -49,7 +49,7 @@ pub fn draw<R: Threads + Sync, G: BandGate + Sync>(
 // Draws the rows of the band whose first place has that number.
 fn band_into(scene: &Scene<'_>, start: usize, part: &mut [Colour])
     requires { IsBand scene.now start (length part.old) }
-    ensures { IsPart scene.now start (length part.old) part.new }
+    ensures { IsPlanePart scene.now start (length part.old) part.new }
 {
     let width = scene.width() as usize;
     let _ = scene.height(); // The rows have numbers of 32 bits.

@@ -9,7 +9,7 @@ use Rattle.bitmap_font.specs.declared.set_fault.SetFault.{SetFault}
 use Rattle.bitmap_font.specs.declared.set_fault.SetFault.TheVariants as sets
 use Rattle.bitmap_font.specs.Font.{FontValue, glyph_of}
 use Rattle.bitmap_font.specs.Past.{Line, counted, box_in}
-use Rattle.bitmap_font.specs.Reading.{fault_of, ends_font, font_lines, lines_before, line_at, AreRight, ListsFont, IsFont, IsRefused}
+use Rattle.bitmap_font.specs.Reading.{fault_of, ends_font, font_lines, lines_before, line_at, AreRight, ListsFont, IsFont, IsRefusedLine}
 use Rattle.bitmap_font.specs.Refusal.{IsFontFault, IsFontRefusal, IsSetRefusal}
 use Rattle.bitmap_font.specs.Setting.{CanBeSet, AllCanBeSet, HasRoom, IsFirstMissing, IsSetFault, widest_line, line_after}
 
@@ -31,7 +31,7 @@ not_before all n before kind right less wrong =
 
 -- bytes are not both a font and faulty
 pub font_or_fault : (bytes : List ℕ) (font : FontValue) (line : ℕ) (kind : FontKind) → IsFont bytes font
-    → IsRefused bytes line kind → ⊥
+    → IsRefusedLine bytes line kind → ⊥
 font_or_fault bytes font line kind is bad =
     let all = font_lines bytes in
     elim (apart_or_same is.last bad.before) [
@@ -78,8 +78,8 @@ same_kind : (a b : FontKind) (found : Option FontKind) → found ≡ Some a → 
 same_kind a b found first second = let same : Some a ≡ Some b = sym first ∙ second in cc
 
 -- the first faulty line of bytes is one, for one kind of reason
-pub one_refusal : (bytes : List ℕ) (line other : ℕ) (a b : FontKind) → IsRefused bytes line a
-    → IsRefused bytes other b → (line ≡ other) × (a ≡ b)
+pub one_refusal : (bytes : List ℕ) (line other : ℕ) (a b : FontKind) → IsRefusedLine bytes line a
+    → IsRefusedLine bytes other b → (line ≡ other) × (a ≡ b)
 one_refusal bytes line other a b first second =
     let all = font_lines bytes in
     elim (apart_or_same first.before second.before) [

@@ -13,7 +13,7 @@ use Rattle.bitmap_font.specs.Font.{GlyphValue, FontValue, font_with}
 use Rattle.bitmap_font.specs.Words.{keyword_of}
 use Rattle.bitmap_font.specs.Past.{Line, line_of, OpenGlyph, Past, looking_back, counted, box_in, glyphs_in}
 use Rattle.bitmap_font.specs.LineFaults.{fault_by, ends_by}
-use Rattle.bitmap_font.specs.Reading.{fault_of, ends_font, font_lines, lines_before, line_at, AreRight, ListsFont, IsFont, IsRefused}
+use Rattle.bitmap_font.specs.Reading.{fault_of, ends_font, font_lines, lines_before, line_at, AreRight, ListsFont, IsFont, IsRefusedLine}
 use Rattle.bitmap_font.specs.Private.Steps.{first_past, step}
 use Rattle.bitmap_font.specs.Private.Reader.{past_of, IsReader}
 use Rattle.bitmap_font.proofs.SettingLaws.{earlier-more}
@@ -255,7 +255,7 @@ module _ (bytes : List ℕ) (n : ℕ) (left rest : List (List ℕ)) (text : List
 
   -- a later line that is wrong
   pub IsRefused-line : 1 ≤ n → (kind : FontKind) → fault_by (past_of reader) (line_of text) ≡ Some kind
-      → IsRefused bytes (n + 1) kind
+      → IsRefusedLine bytes (n + 1) kind
   IsRefused-line later kind wrong = record {
     before = n;
     number = refl;
@@ -264,7 +264,7 @@ module _ (bytes : List ℕ) (n : ℕ) (left rest : List (List ℕ)) (text : List
   }
 
   -- the first line is wrong
-  pub IsRefused-first : n ≡ 0 → (keyword_of text ≡ StartFont → ⊥) → IsRefused bytes (n + 1) NotBdf
+  pub IsRefused-first : n ≡ 0 → (keyword_of text ≡ StartFont → ⊥) → IsRefusedLine bytes (n + 1) NotBdf
   IsRefused-first none keyword = record {
     before = n;
     number = refl;
@@ -304,7 +304,7 @@ module _ (bytes : List ℕ) (n : ℕ) (left rest : List (List ℕ)) (text : List
 
 -- all lines were read
 pub IsRefused-all : (bytes : List ℕ) (n : ℕ) (left : List (List ℕ)) (reader : Reader)
-    → HasRead bytes n left reader → left ≡ [] → IsRefused bytes (n + 1) Truncated
+    → HasRead bytes n left reader → left ≡ [] → IsRefusedLine bytes (n + 1) Truncated
 IsRefused-all bytes n left reader before none = record {
   before = n;
   number = refl;

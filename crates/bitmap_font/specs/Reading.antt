@@ -50,7 +50,7 @@ pub record IsFont (bytes : List ℕ) (font : FontValue) : Type 0 where
   pub lists : ListsFont (counted (lines_before (font_lines bytes) last)) font
 
 -- a line, counted from 1, is the first that is wrong, for this kind of reason: or the lines are right but have no end
-pub record IsRefused (bytes : List ℕ) (line : ℕ) (kind : FontKind) : Type 0 where
+pub record IsRefusedLine (bytes : List ℕ) (line : ℕ) (kind : FontKind) : Type 0 where
   pub before : ℕ
   pub number : line ≡ before + 1
   pub right : AreRight (font_lines bytes) before

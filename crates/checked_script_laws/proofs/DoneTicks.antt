@@ -7,11 +7,9 @@ use Rattle.std.proofs.lemmas.List.Elements.{recursion_from_All}
 use Rattle.sub_base.specs.Profile.{profile_of}
 use Rattle.sub_base.specs.declared.load.WriteLoad.{WriteLoad}
 use Rattle.sub_base.specs.declared.pace.Pace.{Pace}
-use Rattle.sub_base.specs.declared.profile.ProfileName.{ProfileName}
 use Rattle.buffer_model.specs.Calls.{Call, Arrived, SetWhole, Dropped, greatest}
 use Rattle.buffer_model.proofs.LevelLaws.{no_breach}
 use Rattle.check_text.specs.CheckText.{IsCheckText, breach_line, peak_line, sets_text}
-use Rattle.cue_list.specs.declared.script.Script.{Script}
 use Rattle.decoder_model.specs.Frames.{only}
 use Rattle.decoder_model.specs.Arrivals.{packets_taken}
 use Rattle.page_epoch.specs.declared.planned_set.PlannedSet.{PlannedSet}
@@ -21,7 +19,8 @@ use Rattle.received_level_laws.proofs.ToldLaws.{are_calls}
 use Rattle.schedule.specs.Slots.{Timetable}
 use Rattle.scheduled_level_laws.specs.DoneSets.{DoneSet, done_sets}
 use Rattle.script_stream.specs.ShownRightly.{IsShownRightly}
-use Rattle.shown_stream.specs.Compiled.{sent_pace}
+use Rattle.shown_stream.specs.Compiled.{sent_pace, Compiling, received_by}
+use Rattle.shown_stream.specs.SentPlan.{sent_plan}
 use Rattle.shown_stream.specs.SentSets.{first_times_from, sent_sets}
 use Rattle.shown_stream.specs.Shows.{IsAnchorOf}
 use Rattle.shown_stream.specs.StaysWithin.{AreCallsBefore, IsAsScheduled, IsKeptCall, StaysWithin}
@@ -32,7 +31,7 @@ abbrev calls_in : List ToldCall → List Call
 calls_in told = map (λ (one : ToldCall). one.call) told
 
 -- a set that is told, by its time and its tick
-abbrev as_done : told.DoneSet → DoneSet
+abbrev as_done : told.ToldDoneSet → DoneSet
 as_done one = record { time = one.set.load.pts; done = one.done }
 
 -- ---- lists
@@ -66,7 +65,7 @@ map_twice f g (x ∷ xs) = ap (λ rest. g (f x) ∷ rest) (map_twice f g xs)
 -- ---- sets among calls
 
 -- a call more: its set is done behind the calls before it
-head_told : (pace : Pace) (earlier : List Call) (call : Call) (set : Option ToldSet) (more : List told.DoneSet)
+head_told : (pace : Pace) (earlier : List Call) (call : Call) (set : Option ToldSet) (more : List told.ToldDoneSet)
     → IsToldSo call set → IsKeptCall call
     → reverse (map as_done
     (cons_option (option_map (λ (one : ToldSet). record { set = one; done = done_by pace earlier call }) set) more))
@@ -98,12 +97,12 @@ sets_done pace earlier (one ∷ told) right kept =
 
 -- ---- the text
 
-pub schedule_told : (profile : ProfileName) (pid page : ℕ) (script : Script) (sets : List PlannedSet)
+pub schedule_told : (compiling : Compiling) (sets : List PlannedSet)
     (loads : List WriteLoad) (table : Timetable) (bytes : List ℕ) (text : List ℕ)
-    → (shown : IsShownRightly profile pid page script sets loads table bytes)
-    → IsCheckText (profile_of profile) script.origin pid (only page) true shown.packets text
+    → (shown : IsShownRightly compiling sets loads table bytes)
+    → IsCheckText (received_by compiling compiling.script.origin) true shown.packets text
     → TellsSchedule sets table text
-schedule_told profile pid page script sets loads table bytes text shown is = record {
+schedule_told compiling sets loads table bytes text shown is = record {
   told = done;
   times =
       back (λ (one : DoneSet). one.time) (map (λ (set : PlannedSet). set.pts) sets) (scheduled.times calls given);
@@ -116,34 +115,35 @@ schedule_told profile pid page script sets loads table bytes text shown is = rec
 }
   where
     pace : Pace
-    pace = sent_pace profile script
+    pace = sent_pace compiling.profile compiling.script
 
     calls : List Call
     calls = calls_told is.told
 
-    done : List told.DoneSet
+    done : List told.ToldDoneSet
     done = told_sets pace is.told
 
-    suits : IsAnchorOf (first_times_from 0 (sent_sets table sets)) script.origin
-    suits = shown.first_suits 0 script.origin (omega arith) (omega arith)
+    suits : IsAnchorOf (first_times_from 0 (sent_sets table sets)) compiling.script.origin
+    suits = shown.first_suits 0 compiling.script.origin (omega arith) (omega arith)
 
-    stays : StaysWithin profile pid (only page) script sets table shown.packets 0 script.origin
-    stays = shown.stays 0 script.origin suits
+    stays : StaysWithin (sent_plan compiling sets table) shown.packets 0 compiling.script.origin
+    stays = shown.stays 0 compiling.script.origin suits
 
-    scheduled : IsAsScheduled profile pid (only page) script sets loads table shown.packets script.origin
-    scheduled = shown.scheduled script.origin suits
+    scheduled : IsAsScheduled (sent_plan compiling sets table) loads shown.packets compiling.script.origin
+    scheduled = shown.scheduled compiling.script.origin suits
 
-    given : AreCallsBefore (length shown.packets) profile pid (only page) script.origin 0 shown.packets calls
+    given : AreCallsBefore (length shown.packets) (received_by compiling compiling.script.origin) 0 shown.packets calls
     given =
         stays.ended calls
-        (are_calls (profile_of profile) pid (only page) script.origin 0 true shown.packets is.told is.are)
+        (are_calls (received_by compiling compiling.script.origin) 0 true shown.packets is.told is.are)
 
     right : AllByRecursion IsToldRightly is.told
     right =
         subst (AllByRecursion IsToldRightly) (sym is.are.are)
-        (packets_told (profile_of profile).coded pid (only page) 0 [] (packets_taken pid shown.packets)
-        (told_behind (profile_of profile) script.origin [] (reverse is.are.past))
-        (sets_told (profile_of profile) script.origin [] (reverse is.are.past)))
+        (packets_told (profile_of compiling.profile).coded compiling.pid (only compiling.page) 0 []
+        (packets_taken compiling.pid shown.packets)
+        (told_behind (profile_of compiling.profile) compiling.script.origin [] (reverse is.are.past))
+        (sets_told (profile_of compiling.profile) compiling.script.origin [] (reverse is.are.past)))
 
     kept : AllByRecursion IsKeptCall (calls_in is.told)
     kept =
@@ -157,7 +157,7 @@ schedule_told profile pid page script sets loads table bytes text shown is = rec
         ∙ append-nil (reverse (map as_done done))
 
     back : {X : Type 0} (f : DoneSet → X) (wanted : List X) → map f (done_sets pace calls) ≡ reverse wanted
-        → map (λ (one : told.DoneSet). f (as_done one)) done ≡ wanted
+        → map (λ (one : told.ToldDoneSet). f (as_done one)) done ≡ wanted
     back f wanted same =
         sym (map_twice as_done f done)
         ∙ sym (reverse-reverse (map f (map as_done done)))

@@ -4,29 +4,26 @@ ghost use Rattle.std.specs.Prelude.{List, true, ℕ};
 ghost use Rattle.check_text.specs.CheckText.{IsCheckText};
 ghost use Rattle.checked_script_laws.specs.Scheduled.{TellsSchedule};
 ghost use Rattle.checked_script_laws.specs.Unbreached.{EndsUnbreached};
-ghost use Rattle.cue_list.specs.declared.script.Script.{Script};
-ghost use Rattle.decoder_model.specs.Frames.{only};
 ghost use Rattle.decoder_model.specs.Streams.{entered_at};
 ghost use Rattle.page_epoch.specs.declared.planned_set.PlannedSet.{PlannedSet};
 ghost use Rattle.schedule.specs.Slots.{Timetable};
 ghost use Rattle.script_stream.specs.ShownRightly.{IsShownRightly};
-ghost use Rattle.shown_stream.specs.Compiled.{sent_pace};
+ghost use Rattle.shown_stream.specs.Compiled.{sent_pace, Compiling, received_by};
 ghost use Rattle.sub_base.specs.Pace.{tick_of};
-ghost use Rattle.sub_base.specs.Profile.{profile_of};
 ghost use Rattle.sub_base.specs.declared.load.WriteLoad.{WriteLoad};
-ghost use Rattle.sub_base.specs.declared.profile.ProfileName.{ProfileName};
 
 /// Of the packets of a script, entered behind any number of them, `check` finds no breach: neither
 /// a level above the coded data buffer nor a display set that is done behind its time. Its ORIGIN
 /// is the tick of the first packet that it gets, in ticks of 90 kHz: the script's origin, and a
 /// step of the profile more for each packet that was missed.
 pub fn check_of_a_script_finds_no_breach()
-    ensures { (profile : ProfileName) (pid page : ℕ) (script : Script) (sets : List PlannedSet)
+    ensures { (compiling : Compiling) (sets : List PlannedSet)
         (loads : List WriteLoad) (table : Timetable) (bytes : List ℕ) (missed : ℕ)
         (text : List ℕ)
-        → (shown : IsShownRightly profile pid page script sets loads table bytes)
-        → IsCheckText (profile_of profile) (tick_of (sent_pace profile script) missed)
-        pid (only page) true (entered_at missed shown.packets) text
+        → (shown : IsShownRightly compiling sets loads table bytes)
+        → IsCheckText
+        (received_by compiling (tick_of (sent_pace compiling.profile compiling.script) missed))
+        true (entered_at missed shown.packets) text
         → EndsUnbreached text }
 {}
 
@@ -34,9 +31,9 @@ pub fn check_of_a_script_finds_no_breach()
 /// plan, in order of their presentation times, each done at its tick of the schedule, and no
 /// breach.
 pub fn check_tells_the_schedule()
-    ensures { (profile : ProfileName) (pid page : ℕ) (script : Script) (sets : List PlannedSet)
+    ensures { (compiling : Compiling) (sets : List PlannedSet)
         (loads : List WriteLoad) (table : Timetable) (bytes text : List ℕ)
-        → (shown : IsShownRightly profile pid page script sets loads table bytes)
-        → IsCheckText (profile_of profile) script.origin pid (only page) true shown.packets text
+        → (shown : IsShownRightly compiling sets loads table bytes)
+        → IsCheckText (received_by compiling compiling.script.origin) true shown.packets text
         → TellsSchedule sets table text }
 {}

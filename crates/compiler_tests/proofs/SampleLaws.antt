@@ -7,7 +7,7 @@ use Rattle.sub_base.specs.Depth.{bits_of}
 use Rattle.sub_base.specs.Picture.{Picture, IsPicture}
 use Rattle.sub_base.specs.declared.depth.Depth.{Depth}
 use Rattle.sub_base.specs.declared.depth.Depth.TheVariants.{Four}
-use Rattle.cue_list.specs.Sound.{IsSound, IsEpoch, IsTick, IsRegion, AreApart, IsColourRow, IsCue, Follows, AreTicksApart, FitsRegion}
+use Rattle.cue_list.specs.Sound.{IsSoundScript, IsEpoch, IsTick, IsRegion, AreSeparate, IsColourRow, IsCue, Follows, AreTicksApart, FitsRegion}
 use Rattle.cue_list.specs.declared.epoch.Epoch.{Epoch}
 use Rattle.compiler_tests.specs.Private.Sample.{sample, sample_region, sample_colour, solid_cue, through_cue}
 
@@ -88,7 +88,7 @@ sample_right first second p q = record {
           across = omega arith;
           down = omega arith;
         });
-    apart = one_pair AreApart sample_region;
+    apart = one_pair AreSeparate sample_region;
   };
   colours =
       one (IsColourRow 0 90000) sample_colour
@@ -132,7 +132,7 @@ small : {a b : ℕ} → a ≤ 4 → b ≤ 4 → 0 + a + b ≤ 268435456
 small h k = omega arith
 
 sound : (first second : Picture) → IsSmall first → IsSmall second
-    → IsSound 0 4 1 450000 (sample ∷ []) (first ∷ second ∷ [])
+    → IsSoundScript 0 4 1 450000 (sample ∷ []) (first ∷ second ∷ [])
 sound first second p q = record {
   early = omega arith;
   wide = (omega arith, omega arith);
@@ -156,7 +156,7 @@ sound first second p q = record {
 
 pub sample_sound : (first second : Picture) (epochs : List Epoch) (pictures : List Picture) → IsSmall first
     → IsSmall second → epochs ≡ sample ∷ [] → pictures ≡ first ∷ second ∷ []
-    → IsSound 0 4 1 450000 epochs pictures
+    → IsSoundScript 0 4 1 450000 epochs pictures
 sample_sound first second epochs pictures p q e f =
-    subst (λ (es : List Epoch). IsSound 0 4 1 450000 es pictures) (sym e)
-    (subst (IsSound 0 4 1 450000 (sample ∷ [])) (sym f) (sound first second p q))
+    subst (λ (es : List Epoch). IsSoundScript 0 4 1 450000 es pictures) (sym e)
+    (subst (IsSoundScript 0 4 1 450000 (sample ∷ [])) (sym f) (sound first second p q))

@@ -1,6 +1,6 @@
 ghost use Rattle.std.specs.Prelude.{◌≡◌, ◌<◌, ◌≤◌, ◌^◌, [], ◌∷◌, length, All, IfOk};
 ghost use Rattle.sub_base.specs.Picture.{IsPicture};
-ghost use Rattle.cue_list.specs.Sound.{IsSound};
+ghost use Rattle.cue_list.specs.Sound.{IsSoundScript};
 ghost use Rattle.page_epoch.specs.Sendable.{IsSendableClut, IsSendableIn};
 ghost use Rattle.compiler_tests.specs.Private.Sample.{sample};
 
@@ -39,7 +39,7 @@ fn sample_epoch(alloc: Global) -> Result<Epoch, Fail>
 
 /// The script of that epoch and these pictures.
 fn script_of(alloc: Global, epochs: Vec<Epoch>, pictures: Vec<Indexed>) -> Script
-    requires { IsSound 0 4 1 450000 epochs.items pictures.items }
+    requires { IsSoundScript 0 4 1 450000 epochs.items pictures.items }
     ensures { result.epochs ≡ epochs.items }
 {
     Script {

@@ -1,5 +1,5 @@
 ghost use Rattle.std.specs.Prelude.{◌≤◌};
-ghost use Rattle.page_epoch.specs.Sendable.{IsSendable};
+ghost use Rattle.page_epoch.specs.Sendable.{IsOfItsEpoch};
 
 use bitmap_font::Font;
 use cue_list::Script;
@@ -76,7 +76,7 @@ fn check_set<R: Abort>(
     units: &[u32],
     longest: u64,
 ) -> Result<(), Fail>
-    requires { IsSendable script.now set.now }
+    requires { IsOfItsEpoch script.now set.now }
 {
     let load = load_of(alloc, script, set)?;
     assert_eq!(rt; load.units.as_slice(), units);

@@ -10,7 +10,7 @@ use Rattle.cue_list.specs.declared.script.Script.{Script}
 use Rattle.cue_list.specs.Past.{looking_back}
 use Rattle.cue_list.specs.Records.{Record, records_of, records_before, record_at}
 use Rattle.cue_list.specs.RowFaults.{fault_of}
-use Rattle.cue_list.specs.ScriptRows.{AreRight, IsScript, IsRefused, IsScriptFault, IsRefusal}
+use Rattle.cue_list.specs.ScriptRows.{AreRightRecords, IsScript, IsRefusedRecord, IsScriptFault, AnswersScriptFault}
 
 -- of two numbers one is less, or they are the same
 apart_or_same : (a b : ℕ) → (a < b) ⊎ ((b < a) ⊎ (a ≡ b))
@@ -20,7 +20,7 @@ apart_or_same a b = grind arith
 right_or_wrong : (found : Option ScriptKind) (kind : ScriptKind) → found ≡ None → found ≡ Some kind → ⊥
 right_or_wrong found kind right wrong = let bad : None ≡ Some kind = sym right ∙ wrong in cc
 
-not_before : (font : FontValue) (all : List Record) (n before : ℕ) (kind : ScriptKind) → AreRight font all n
+not_before : (font : FontValue) (all : List Record) (n before : ℕ) (kind : ScriptKind) → AreRightRecords font all n
     → before < n →
     fault_of font (records_before all before) (record_at all before) ≡ Some kind → ⊥
 not_before font all n before kind right less wrong =
@@ -34,7 +34,7 @@ some_or_none found some none = let bad : false ≡ true = ap is_some (sym none) 
 -- bytes are not both a script and faulty
 pub script_or_fault : (bytes : List ℕ) (font : FontValue) (origin width height refresh : ℕ) (epochs : List Epoch)
     (pictures : List Picture) (row : ℕ) (kind : ScriptKind) →
-    IsScript bytes font origin width height refresh epochs pictures → IsRefused bytes font row kind → ⊥
+    IsScript bytes font origin width height refresh epochs pictures → IsRefusedRecord bytes font row kind → ⊥
 script_or_fault bytes font origin width height refresh epochs pictures row kind is bad =
     let all = records_of bytes in
     elim bad.wrong [
@@ -48,7 +48,7 @@ same_kind a b found first second = let same : Some a ≡ Some b = sym first ∙ 
 
 -- the first faulty record of bytes is one, for one kind of reason
 pub one_refusal : (bytes : List ℕ) (font : FontValue) (row other : ℕ) (a b : ScriptKind)
-    → IsRefused bytes font row a → IsRefused bytes font other b →
+    → IsRefusedRecord bytes font row a → IsRefusedRecord bytes font other b →
     (row ≡ other) × (a ≡ b)
 one_refusal bytes font row other a b first second =
     let all = records_of bytes in
@@ -85,7 +85,7 @@ pub every_fault : (bytes : List ℕ) (font : FontValue) (result : Result Script 
     (λ script. IsScript bytes font script.origin script.width script.height script.refresh script.epochs
     script.pictures) →
     IfErr result (IsScriptFault bytes font) → (fault : ScriptFault) → IsScriptFault bytes font fault
-    → fault ≢ Memory → IsRefusal fault result
+    → fault ≢ Memory → AnswersScriptFault fault result
 every_fault bytes font result found refused Memory is other = absurd (other refl)
 every_fault bytes font (Ok script) found refused (Refused row kind) is other =
     script_or_fault bytes font script.origin script.width script.height script.refresh script.epochs script.pictures row

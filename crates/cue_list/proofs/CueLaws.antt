@@ -8,7 +8,7 @@ use Rattle.cue_list.specs.declared.row_values.PlaceRow.{PlaceRow}
 use Rattle.cue_list.specs.declared.row_kind.RowKind.TheVariants as kinds
 use Rattle.cue_list.specs.CellFaults.{value_at}
 use Rattle.cue_list.specs.Cells.{cell_at}
-use Rattle.cue_list.specs.Past.{Past, area, with_last, region_with, head_by, cue_with}
+use Rattle.cue_list.specs.Past.{ScriptPast, area, with_last, region_with, head_by, cue_with}
 use Rattle.cue_list.specs.RowFaults.{regions_of}
 use Rattle.cue_list.specs.RowValues.{placing_in}
 use Rattle.cue_list.specs.Rows.{Row}
@@ -17,7 +17,7 @@ use Rattle.cue_list.specs.TextSizes.{text_head}
 use Rattle.cue_list.specs.Private.Ticks.{near_with}
 
 -- what a cue's record brings, by the record's cells
-pub cue-next : (font : FontValue) (past : Past) (number : ℕ) (cells : Row) (placing : PlaceRow) (text : List ℕ)
+pub cue-next : (font : FontValue) (past : ScriptPast) (number : ℕ) (cells : Row) (placing : PlaceRow) (text : List ℕ)
     (head : PictureHead)
     (epoch : Option Epoch) (heads : List PictureHead) (codes : ℕ) (near : ℕ → Bool) (cue : Cue)
     → placing ≡ placing_in cells → text ≡ cell_at cells 8

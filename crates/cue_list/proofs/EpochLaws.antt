@@ -19,7 +19,7 @@ use Rattle.cue_list.specs.Past.{region_with}
 use Rattle.cue_list.specs.RowFaults.{starts_before, lasts_past, lies_on, share_row}
 use Rattle.cue_list.specs.RowValues.{region_in, colour_in}
 use Rattle.cue_list.specs.Rows.{Row}
-use Rattle.cue_list.specs.Sound.{IsTick, IsRegion, AreApart, IsColourRow, Follows}
+use Rattle.cue_list.specs.Sound.{IsTick, IsRegion, AreSeparate, IsColourRow, Follows}
 use Rattle.cue_list.specs.Private.State.{with_region, with_colour, with_cue}
 use Rattle.cue_list.proofs.FactLaws.{passed, both-false, number-range}
 use Rattle.cue_list.proofs.TicksApartLaws.{Member, Member-append, Member-at}
@@ -44,7 +44,7 @@ pub record IsEpochOf (origin width height : ℕ) (heads : List PictureHead) (epo
   pub starts : IsTick origin epoch.start
   pub many : length epoch.regions ≤ MOST_REGIONS
   pub regions : (region : Region) → Member region epoch.regions → IsRegion width height region
-  pub apart : AllPairs AreApart epoch.regions
+  pub apart : AllPairs AreSeparate epoch.regions
   pub colours : (row : ColourRow) → Member row epoch.colours → IsColourRow origin epoch.start row
   pub cues : (cue : Cue) → Member cue epoch.cues → IsCueOf origin epoch.start epoch.regions heads cue
 
@@ -139,7 +139,7 @@ epoch-region origin width height heads epoch region old sides few unused new lie
             | inr last ↦ subst (IsRegion width height)
                 (sym (last-of other region last)) is_region
           ];
-      apart = all_pairs_push AreApart epoch.regions region old.apart (λ k other within.
+      apart = all_pairs_push AreSeparate epoch.regions region old.apart (λ k other within.
           let m = Member-at epoch.regions k other within in
           let first = get_or epoch.regions k other in
           record {

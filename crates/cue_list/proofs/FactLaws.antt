@@ -14,7 +14,7 @@ use Rattle.cue_list.specs.declared.row_values.PictureHead.{PictureHead}
 use Rattle.cue_list.specs.declared.row_values.PlaceRow.{PlaceRow}
 use Rattle.cue_list.specs.declared.row_kind.RowKind.{RowKind}
 use Rattle.cue_list.specs.CellFaults.{first_of, fails, value_of, number_fault, cells_fault}
-use Rattle.cue_list.specs.Past.{Past, is_close, region_with}
+use Rattle.cue_list.specs.Past.{ScriptPast, is_close, region_with}
 use Rattle.cue_list.specs.RowFaults.{fault_with, shape_fault, is_misplaced, is_full, kind_fault, epoch_fault, region_fault, colour_fault, span_fault, placed_fault, place_fault, cue_fault, set_fault, text_fault, glyph_fault, starts_before, lasts_past, lies_on, share_row, is_early, has_room_at, are_too_many, regions_of, head_at}
 use Rattle.cue_list.specs.Rows.{Row}
 use Rattle.cue_list.specs.TextSizes.{text_head, missing_glyph}
@@ -44,13 +44,13 @@ both-false true b h = absurd (let never : true ≡ false = h in cc)
 both-false false b h = (refl, h)
 
 -- a right record stands in its place, has room, and its cells and its kind's tests are right
-pub record IsRightRow (font : FontValue) (past : Past) (kind : RowKind) (number : ℕ) (cells : Row) : Type 0 where
+pub record IsRightRow (font : FontValue) (past : ScriptPast) (kind : RowKind) (number : ℕ) (cells : Row) : Type 0 where
   pub placed : is_misplaced past kind ≡ false
   pub room : is_full past kind ≡ false
   pub cells_right : cells_fault past.origin kind cells ≡ None
   pub content : kind_fault font past kind number cells ≡ None
 
-pub IsRightRow-from : (font : FontValue) (past : Past) (kind : RowKind) (number : ℕ) (cells : Row)
+pub IsRightRow-from : (font : FontValue) (past : ScriptPast) (kind : RowKind) (number : ℕ) (cells : Row)
     → fault_with font past (record { number = number; kind = kind; cells = cells }) ≡ None
     → IsRightRow font past kind number cells
 IsRightRow-from font past kind number cells h =
@@ -86,7 +86,7 @@ number-range least most cell h =
     most-of e = grind (arith, nat_tests)
 
 -- a right epoch
-pub epoch-right : (past : Past) (start : ℕ) → epoch_fault past start ≡ None
+pub epoch-right : (past : ScriptPast) (start : ℕ) → epoch_fault past start ≡ None
     → (starts_before start past.epoch ≡ true) × (lasts_past start past.epoch ≡ false)
     × (past.is_near start ≡ false)
 unfolding epoch_fault
@@ -97,7 +97,7 @@ epoch-right past start h =
     (not-false _ first.0, second.0, third.0)
 
 -- a right region
-pub region-right : (past : Past) (region : Region) → region_fault past region ≡ None
+pub region-right : (past : ScriptPast) (region : Region) → region_fault past region ≡ None
     → (is_some (region_with region.id (regions_of past.epoch)) ≡ false)
     × (lies_on past.width past.height region ≡ true)
     × (list_any (share_row region) (regions_of past.epoch) ≡ false)
@@ -109,7 +109,7 @@ region-right past region h =
     (first.0, not-false _ second.0, third.0)
 
 -- a right colour
-pub colour-right : (past : Past) (row : ColourRow) → colour_fault past row ≡ None
+pub colour-right : (past : ScriptPast) (row : ColourRow) → colour_fault past row ≡ None
     → (nat_lt row.entry (code_count row.depth) ≡ true) × (is_early row.tick past.epoch ≡ false)
     × (past.is_near row.tick ≡ false)
 unfolding colour_fault
@@ -120,7 +120,7 @@ colour-right past row h =
     (not-false _ first.0, second.0, third.0)
 
 -- a right span
-pub record IsRightSpan (past : Past) (start end : ℕ) : Type 0 where
+pub record IsRightSpan (past : ScriptPast) (start end : ℕ) : Type 0 where
   pub within : is_early start past.epoch ≡ false
   pub lasts : nat_le end start ≡ false
   pub short : nat_lt (start + LONGEST_CUE) end ≡ false
@@ -128,7 +128,7 @@ pub record IsRightSpan (past : Past) (start end : ℕ) : Type 0 where
   pub end_far : past.is_near end ≡ false
   pub apart : is_close start end ≡ false
 
-pub span-right : (past : Past) (start end : ℕ) → span_fault past start end ≡ None → IsRightSpan past start end
+pub span-right : (past : ScriptPast) (start end : ℕ) → span_fault past start end ≡ None → IsRightSpan past start end
 unfolding span_fault
 span-right past start end h =
     let first = right (is_early start past.epoch) faults.OutsideEpoch _ h in
@@ -140,7 +140,7 @@ span-right past start end h =
     record { within = first.0; lasts = second.0; short = third.0; start_far = far.0; end_far = far.1; apart = apart.1 }
 
 -- a right place or cue: its region, and its picture's depth and sides
-pub record IsRightPlacing (past : Past) (placing : PlaceRow) (region : Region) (head : PictureHead) : Type 0 where
+pub record IsRightPlacing (past : ScriptPast) (placing : PlaceRow) (region : Region) (head : PictureHead) : Type 0 where
   pub found : region_with placing.region (regions_of past.epoch) ≡ Some region
   pub inside : has_room_at region placing.x placing.y head ≡ true
   pub shallow : bits_of head.depth ≤ bits_of region.depth
@@ -149,7 +149,7 @@ pub record IsRightPlacing (past : Past) (placing : PlaceRow) (region : Region) (
 not-deeper : (a b : ℕ) → nat_lt a b ≡ false → b ≤ a
 not-deeper a b h = grind (arith, nat_tests)
 
-placed-right : (past : Past) (placing : PlaceRow) (region : Option Region) (head : Option PictureHead)
+placed-right : (past : ScriptPast) (placing : PlaceRow) (region : Option Region) (head : Option PictureHead)
     → region_with placing.region (regions_of past.epoch) ≡ region → placed_fault past placing region head ≡ None
     → (r : Region) × (h : PictureHead) × (head ≡ Some h) × IsRightPlacing past placing r h
 placed-right past placing None head is h = absurd (let never : Some faults.NoRegion ≡ None = h in cc)
@@ -169,13 +169,13 @@ placed-right past placing (Some region) (Some head) is h =
       },
     )
 
-pub place-right : (past : Past) (placing : PlaceRow) (name : List ℕ) → place_fault past placing name ≡ None
+pub place-right : (past : ScriptPast) (placing : PlaceRow) (name : List ℕ) → place_fault past placing name ≡ None
     → (r : Region) × (h : PictureHead) × (head_at past.heads (past.named name) ≡ Some h)
     × IsRightPlacing past placing r h
 unfolding place_fault
 place-right past placing name h = placed-right past placing _ _ refl h
 
-set-right : (font : FontValue) (past : Past) (placing : PlaceRow) (ink paper : ℕ) (characters : List ℕ)
+set-right : (font : FontValue) (past : ScriptPast) (placing : PlaceRow) (ink paper : ℕ) (characters : List ℕ)
     (region : Option Region) → region_with placing.region (regions_of past.epoch) ≡ region
     → set_fault font past placing ink paper characters region ≡ None
     → (r : Region) × IsRightPlacing past placing r (text_head font r.depth characters)
@@ -215,7 +215,7 @@ set-right font past placing ink paper characters (Some region) is h =
       few.0,
     )
 
-pub cue-right : (font : FontValue) (past : Past) (placing : PlaceRow) (ink paper : ℕ) (characters : List ℕ)
+pub cue-right : (font : FontValue) (past : ScriptPast) (placing : PlaceRow) (ink paper : ℕ) (characters : List ℕ)
     → cue_fault font past placing ink paper characters ≡ None
     → (r : Region) × IsRightPlacing past placing r (text_head font r.depth characters)
     × (are_too_many past (text_head font r.depth characters) ≡ false)

@@ -9,7 +9,7 @@ use Rattle.cue_list.specs.declared.row_kind.RowKind.{RowKind}
 use Rattle.cue_list.specs.declared.row_kind.RowKind.TheVariants as kinds
 use Rattle.cue_list.specs.CellFaults.{first_of, fails, number_fault, value_of, value_at, cells_fault, epoch_cells, colour_cells, placing_cells, place_cells, cue_cells}
 use Rattle.cue_list.specs.Cells.{cell_at}
-use Rattle.cue_list.specs.Past.{Past}
+use Rattle.cue_list.specs.Past.{ScriptPast}
 use Rattle.cue_list.specs.Private.FirstTicks.{tick_in, tick_read}
 use Rattle.cue_list.specs.Records.{kind_of, record_of}
 use Rattle.cue_list.specs.RowFaults.{fault_with, is_full, is_misplaced, kind_fault, shape_fault}
@@ -63,7 +63,7 @@ cue-read : (origin : ℕ) (cells : Row) → cue_cells origin cells ≡ None → 
 unfolding cue_cells
 cue-read origin cells right = placing-read origin cells (first-none _ _ right)
 
-by-kind : (past : Past) (kind : RowKind) (cells : Row) → cells_fault past.origin kind cells ≡ None
+by-kind : (past : ScriptPast) (kind : RowKind) (cells : Row) → cells_fault past.origin kind cells ≡ None
     → tick_read past kind cells ≡ first_tick past kind cells
 by-kind past kinds.Origin cells right = refl
 by-kind past kinds.Display cells right = refl
@@ -77,7 +77,7 @@ by-kind past kinds.Cue cells right = cue-read past.origin cells right
 by-kind past kinds.Other cells right = refl
 
 -- the first tick of a right row is read from its second cell
-pub first-read : (font : FontValue) (past : Past) (number : ℕ) (cells : Row)
+pub first-read : (font : FontValue) (past : ScriptPast) (number : ℕ) (cells : Row)
     → fault_with font past (record_of number cells) ≡ None
     → tick_read past (kind_of (cell_at cells 0)) cells ≡ first_tick past (kind_of (cell_at cells 0)) cells
 first-read font past number cells right =

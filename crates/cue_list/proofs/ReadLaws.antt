@@ -16,11 +16,11 @@ use Rattle.cue_list.specs.declared.row_kind.RowKind.TheVariants as kinds
 use Rattle.cue_list.specs.CellFaults.{first_of, fails}
 use Rattle.cue_list.specs.Drawn.{Brings}
 use Rattle.cue_list.specs.Private.HasRead.{HasRead}
-use Rattle.cue_list.specs.Past.{Past, looking_back, last_epoch, regions_in}
+use Rattle.cue_list.specs.Past.{ScriptPast, looking_back, last_epoch, regions_in}
 use Rattle.cue_list.specs.Records.{Record, records_of, records_from as numbered, record_of, records_before, record_at}
 use Rattle.cue_list.specs.RowFaults.{fault_with, fault_of, is_misplaced, regions_of}
 use Rattle.cue_list.specs.Rows.{Row, rows_of}
-use Rattle.cue_list.specs.ScriptRows.{AreRight, AreDrawn, IsRefused}
+use Rattle.cue_list.specs.ScriptRows.{AreRightRecords, AreDrawn, IsRefusedRecord}
 use Rattle.cue_list.specs.Private.State.{IsReader, past_of, next_with}
 use Rattle.cue_list.proofs.PastLaws.{looking-back-more, regions-last}
 
@@ -114,7 +114,7 @@ not-none None h = absurd (let never : true ≡ false = h in cc)
 not-none (Some x) h = refl
 
 -- a right cue stands in an epoch
-pub cue-open : (font : FontValue) (past : Past) (kind : RowKind) (number : ℕ) (cells : Row)
+pub cue-open : (font : FontValue) (past : ScriptPast) (kind : RowKind) (number : ℕ) (cells : Row)
     → fault_with font past (record { number = number; kind = kind; cells = cells }) ≡ None → kind ≡ kinds.Cue
     → is_some past.epoch ≡ true
 cue-open font past kind number cells right is =
@@ -138,8 +138,8 @@ brings-with font first second kinds.Cue cells old new same brings =
     subst (λ (regions : List Region). Brings font regions kinds.Cue cells old new) (same refl) brings
 brings-with font first second kinds.Other cells old new same brings = brings
 
-AreRight-more : (font : FontValue) (all : List Record) (n : ℕ) → n < length all → AreRight font all n
-    → fault_of font (records_before all n) (record_at all n) ≡ None → AreRight font all (n + 1)
+AreRight-more : (font : FontValue) (all : List Record) (n : ℕ) → n < length all → AreRightRecords font all n
+    → fault_of font (records_before all n) (record_at all n) ≡ None → AreRightRecords font all (n + 1)
 AreRight-more font all n within right now = record {
   there = omega arith;
   right = below_more (λ k. fault_of font (records_before all k) (record_at all k) ≡ None) n right.right now;
@@ -185,14 +185,14 @@ module _ (bytes : List ℕ) (font : FontValue) (left rest : List Row) (kept : Re
       ≡ fault_with font (past_of kept) row
   fault-is =
       ap (fault_of font (records_before all kept.rows)) row-is
-      ∙ ap (λ (past : Past). fault_with font past row) (sym read.stands)
+      ∙ ap (λ (past : ScriptPast). fault_with font past row) (sym read.stands)
 
   pub room-next : kept.rows + 1 ≤ length bytes + 1
   room-next = let few = few-rows bytes in let below = at.0 in omega arith
 
   -- a record that is wrong
   pub IsRefused-row : (kind : ScriptKind) → fault_with font (past_of kept) row ≡ Some kind
-      → IsRefused bytes font (kept.rows + 1) kind
+      → IsRefusedRecord bytes font (kept.rows + 1) kind
   IsRefused-row kind wrong = record {
     before = kept.rows;
     number = refl;
@@ -207,20 +207,20 @@ module _ (bytes : List ℕ) (font : FontValue) (left rest : List Row) (kept : Re
       → HasRead bytes font rest new
   HasRead-next new reader right kept_is brings =
       let earlier = records_before all kept.rows in
-      let count : new.rows ≡ kept.rows + 1 = ap (λ (past : Past). past.rows) kept_is in
+      let count : new.rows ≡ kept.rows + 1 = ap (λ (past : ScriptPast). past.rows) kept_is in
       let begun : row.kind ≡ kinds.Cue → is_some (last_epoch font earlier) ≡ true =
       λ (is : row.kind ≡ kinds.Cue).
-      ap (λ (past : Past). is_some past.epoch) (sym read.stands)
+      ap (λ (past : ScriptPast). is_some past.epoch) (sym read.stands)
       ∙ cue-open font (past_of kept) row.kind row.number row.cells right is in
       let more : records_before all (kept.rows + 1) ≡ row ∷ earlier =
       before-more all kept.rows within ∙ ap (λ (r : Record). r ∷ earlier) row-is in
-      let epochs : kept.epoch ≡ last_epoch font earlier = ap (λ (past : Past). past.epoch) read.stands in
+      let epochs : kept.epoch ≡ last_epoch font earlier = ap (λ (past : ScriptPast). past.epoch) read.stands in
       let regions : row.kind ≡ kinds.Cue → regions_of kept.epoch ≡ regions_in earlier =
       λ (is : row.kind ≡ kinds.Cue).
       ap regions_of epochs ∙ regions-last font earlier (begun is) in
       let stands : past_of new ≡ looking_back font (row ∷ earlier) =
       kept_is ∙
-      (ap (λ (past : Past). next_with font past row) read.stands
+      (ap (λ (past : ScriptPast). next_with font past row) read.stands
       ∙ sym (looking-back-more font earlier row begun)) in
       let drawn : AreDrawn font (row ∷ earlier) new.pictures.items = (
         kept.pictures.items,
@@ -232,7 +232,7 @@ module _ (bytes : List ℕ) (font : FontValue) (left rest : List Row) (kept : Re
       record {
         left_is = sym at.2 ∙ ap (λ (n : ℕ). drop n (rows_of bytes)) (sym count);
         right =
-            subst (AreRight font all) (sym count)
+            subst (AreRightRecords font all) (sym count)
             (AreRight-more font all kept.rows within read.right (fault-is ∙ right));
         reader = reader;
         stands = stands ∙ ap (looking_back font) (sym at_new);
@@ -256,7 +256,7 @@ all-read bytes font left kept read none =
 -- all records are right, and none starts an epoch
 pub IsRefused-whole : (bytes : List ℕ) (font : FontValue) (left : List Row) (kept : Reader)
     → HasRead bytes font left kept → left ≡ [] → kept.epoch ≡ None
-    → IsRefused bytes font (kept.rows + 1) faults.Order
+    → IsRefusedRecord bytes font (kept.rows + 1) faults.Order
 IsRefused-whole bytes font left kept read none closed = record {
   before = kept.rows;
   number = refl;
@@ -264,7 +264,7 @@ IsRefused-whole bytes font left kept read none closed = record {
   wrong =
       inr (
         all-read bytes font left kept read none,
-        ap (λ (past : Past). past.epoch) (sym read.stands)
+        ap (λ (past : ScriptPast). past.epoch) (sym read.stands)
             ∙ closed,
         refl,
       );

@@ -20,14 +20,14 @@ use Rattle.cue_list.specs.Drawn.{Brings}
 use Rattle.cue_list.specs.CellFaults.{fails, is_text_row}
 use Rattle.cue_list.specs.declared.fault.ScriptKind.TheVariants as faults
 use Rattle.cue_list.specs.Private.HasRead.{HasRead}
-use Rattle.cue_list.specs.Past.{Past, area, is_close, looking_back, last_epoch, ticks_by, ticks_in, with_last, regions_in}
+use Rattle.cue_list.specs.Past.{ScriptPast, area, is_close, looking_back, last_epoch, ticks_by, ticks_in, with_last, regions_in}
 use Rattle.cue_list.specs.Records.{Record, cells_of, records_of, records_before, record_at}
 use Rattle.cue_list.specs.RowFaults.{fault_with, fault_of, shape_fault}
 use Rattle.cue_list.specs.RowValues.{colour_in, placing_in}
 use Rattle.cue_list.specs.Rows.{Row}
-use Rattle.cue_list.specs.ScriptRows.{AreRight, AreDrawn, Lists, IsScript}
+use Rattle.cue_list.specs.ScriptRows.{AreRightRecords, AreDrawn, Lists, IsScript}
 use Rattle.cue_list.specs.Authored.{picture_at_place}
-use Rattle.cue_list.specs.Sound.{IsSound, IsEpoch, IsCue, IsColourRow, IsRegion, Follows, ticks_of}
+use Rattle.cue_list.specs.Sound.{IsSoundScript, IsEpoch, IsCue, IsColourRow, IsRegion, Follows, ticks_of}
 use Rattle.cue_list.specs.Private.State.{IsReader, past_of, head_of, next_with}
 use Rattle.cue_list.proofs.EpochLaws.{IsEpochOf, IsCueOf}
 use Rattle.cue_list.proofs.FactLaws.{IsRightRow-from, passed, right}
@@ -47,7 +47,7 @@ unknown-none cells h =
     let never : true ≡ false = (right true faults.Unknown count text.1).0 in
     cc
 
-sound-next : (font : FontValue) (past : Past) (ticks : List ℕ) (kind : RowKind) (number : ℕ) (cells : Row)
+sound-next : (font : FontValue) (past : ScriptPast) (ticks : List ℕ) (kind : RowKind) (number : ℕ) (cells : Row)
     → SoundPast past ticks → fault_with font past (row_with kind number cells) ≡ None
     → ((t : ℕ) → past.is_near t ≡ list_any (is_close t) ticks)
     → SoundPast (next_with font past (row_with kind number cells)) (ticks_by kind cells ++ ticks)
@@ -81,7 +81,7 @@ sound-row font earlier row sound none =
     → is_some (last_epoch font earlier)
     ≡ true = λ (is : row.kind ≡ kinds.Cue). cue-open font (looking_back font earlier) row.kind row.number
     row.cells none is in
-    subst (λ (past : Past). SoundPast past (ticks_in (row ∷ earlier)))
+    subst (λ (past : ScriptPast). SoundPast past (ticks_in (row ∷ earlier)))
     (sym (looking-back-more font earlier row begun))
     (sound-next font (looking_back font earlier) (ticks_in earlier) row.kind row.number row.cells sound none
     (λ t. refl))
@@ -104,13 +104,13 @@ sound-none font = record {
   cues_counted = omega arith;
 }
 
-pub sound-rows : (font : FontValue) (all : List Record) (n : ℕ) → AreRight font all n
+pub sound-rows : (font : FontValue) (all : List Record) (n : ℕ) → AreRightRecords font all n
     → SoundPast (looking_back font (records_before all n)) (ticks_in (records_before all n))
 sound-rows font all zero right_rows = sound-none font
 sound-rows font all (suc n) right_rows =
     let there = right_rows.there in
     let within : n < length all = omega arith in
-    let fewer : AreRight font all n =
+    let fewer : AreRightRecords font all n =
     record { there = omega arith; right = λ k below. right_rows.right k (omega arith) } in
     let one : suc n ≡ n + 1 = omega arith in
     let more : records_before all (suc n) ≡ record_at all n ∷ records_before all n =
@@ -211,12 +211,12 @@ epoch-of origin width height pictures epoch is = record {
 pub IsSound-kept : (kept : Reader) (ticks : List ℕ) → IsReader kept → SoundPast (past_of kept) ticks
     → is_some kept.epoch ≡ true → ((p : Picture) → Member p kept.pictures.items → IsPicture p)
     → kept.codes ≡ sum_by area (map head_of kept.pictures.items)
-    → IsSound kept.origin kept.width kept.height (90000 * kept.seconds) (with_last kept.ended.items kept.epoch)
+    → IsSoundScript kept.origin kept.width kept.height (90000 * kept.seconds) (with_last kept.ended.items kept.epoch)
     kept.pictures.items
 IsSound-kept kept ticks reader sound some whole counted = with-epoch kept.epoch refl
   where
     with-epoch : (o : Option Epoch) → kept.epoch ≡ o
-        → IsSound kept.origin kept.width kept.height (90000 * kept.seconds) (with_last kept.ended.items o)
+        → IsSoundScript kept.origin kept.width kept.height (90000 * kept.seconds) (with_last kept.ended.items o)
         kept.pictures.items
     with-epoch None is = absurd (let never : false ≡ true = ap is_some (sym is) ∙ some in cc)
     with-epoch (Some epoch) is =
@@ -280,16 +280,16 @@ IsSound-kept kept ticks reader sound some whole counted = with-epoch kept.epoch 
 -- what a reader keeps after right records is sound
 pub IsSound-read : (bytes : List ℕ) (font : FontValue) (left : List Row) (kept : Reader)
     → HasRead bytes font left kept → is_some kept.epoch ≡ true
-    → IsSound kept.origin kept.width kept.height (90000 * kept.seconds) (with_last kept.ended.items kept.epoch)
+    → IsSoundScript kept.origin kept.width kept.height (90000 * kept.seconds) (with_last kept.ended.items kept.epoch)
     kept.pictures.items
 IsSound-read bytes font left kept read some =
     let rows = records_before (records_of bytes) kept.rows in
     let sound : SoundPast (past_of kept) (ticks_in rows) =
-    subst (λ (past : Past). SoundPast past (ticks_in rows)) (sym read.stands)
+    subst (λ (past : ScriptPast). SoundPast past (ticks_in rows)) (sym read.stands)
     (sound-rows font (records_of bytes) kept.rows read.right) in
     let heads : map head_of kept.pictures.items ≡ (looking_back font rows).heads =
-    ap (λ (past : Past). past.heads) read.stands in
-    let codes : kept.codes ≡ (looking_back font rows).codes = ap (λ (past : Past). past.codes) read.stands in
+    ap (λ (past : ScriptPast). past.heads) read.stands in
+    let codes : kept.codes ≡ (looking_back font rows).codes = ap (λ (past : ScriptPast). past.codes) read.stands in
     IsSound-kept kept (ticks_in rows) read.reader sound some (whole-pictures font rows kept.pictures.items read.drawn)
     (codes ∙ ap (sum_by area) (sym heads))
 
@@ -305,16 +305,16 @@ IsScript-read bytes font kept read some =
     let stands = read.stands in
     let lists : Lists font rows kept.origin kept.width kept.height (90000 * kept.seconds)
     (with_last kept.ended.items kept.epoch) kept.pictures.items = record {
-      origin_is = ap (λ (past : Past). past.origin) stands;
-      width_is = ap (λ (past : Past). past.width) stands;
-      height_is = ap (λ (past : Past). past.height) stands;
-      refresh_is = ap (λ (past : Past). 90000 * past.seconds) stands;
-      some_epoch = ap (λ (past : Past). is_some past.epoch) (sym stands) ∙ some;
-      epochs_are = ap (λ (past : Past). with_last past.ended past.epoch) stands;
+      origin_is = ap (λ (past : ScriptPast). past.origin) stands;
+      width_is = ap (λ (past : ScriptPast). past.width) stands;
+      height_is = ap (λ (past : ScriptPast). past.height) stands;
+      refresh_is = ap (λ (past : ScriptPast). 90000 * past.seconds) stands;
+      some_epoch = ap (λ (past : ScriptPast). is_some past.epoch) (sym stands) ∙ some;
+      epochs_are = ap (λ (past : ScriptPast). with_last past.ended past.epoch) stands;
       pictures_are = read.drawn;
     } in
     record {
-      right = subst (AreRight font all) count read.right;
+      right = subst (AreRightRecords font all) count read.right;
       lists =
           subst (λ (n : ℕ). Lists font (records_before all n) kept.origin kept.width kept.height
           (90000 * kept.seconds) (with_last kept.ended.items kept.epoch) kept.pictures.items) count lists;
@@ -322,6 +322,6 @@ IsScript-read bytes font kept read some =
 
 -- the seconds of a refresh are few
 pub few-seconds : (origin width height refresh : ℕ) (epochs : List Epoch) (pictures : List Picture)
-    → IsSound origin width height refresh epochs pictures → refresh ≤ 5400000
+    → IsSoundScript origin width height refresh epochs pictures → refresh ≤ 5400000
 few-seconds origin width height refresh epochs pictures sound =
     let whole = sound.whole in let often = sound.often in omega arith

@@ -11,7 +11,7 @@ use Rattle.cue_list.specs.declared.epoch.Region.{Region}
 use Rattle.cue_list.specs.declared.row_values.PlaceRow.{PlaceRow}
 use Rattle.cue_list.specs.declared.row_fault.RowFault.{RowFault}
 use Rattle.cue_list.specs.CellFaults.{first_of}
-use Rattle.cue_list.specs.Past.{Past}
+use Rattle.cue_list.specs.Past.{ScriptPast}
 use Rattle.cue_list.specs.RowFaults.{glyph_fault, text_fault}
 use Rattle.cue_list.specs.Setting.{row_fault_of}
 use Rattle.cue_list.specs.Private.State.{head_of, IsRowFault}
@@ -75,7 +75,7 @@ text_head-set font characters ink paper depth picture set = λ i. record {
   height = sym set.sides.high i;
 }
 
-glyph-first : (missing : Option ℕ) (c : ℕ) (past : Past) (placing : PlaceRow) (region : Region) (font : FontValue)
+glyph-first : (missing : Option ℕ) (c : ℕ) (past : ScriptPast) (placing : PlaceRow) (region : Region) (font : FontValue)
     (characters : List ℕ) → missing ≡ Some c
     → first_of
     (glyph_fault missing ∷ text_fault past placing region (text_head font region.depth characters) ∷ [])
@@ -89,7 +89,7 @@ not_zero : (w : ℕ) → 1 ≤ w → (w == 0) ≡ false
 not_zero w some = grind (arith, nat_tests)
 
 -- a text that cannot be set fails the test of its record
-pub set-refused : (font : FontValue) (characters : List ℕ) (fault : SetFault) (past : Past) (placing : PlaceRow)
+pub set-refused : (font : FontValue) (characters : List ℕ) (fault : SetFault) (past : ScriptPast) (placing : PlaceRow)
     (region : Region) → IsSetFault font characters fault
     → IsRowFault
     (first_of
@@ -106,7 +106,8 @@ set-refused font characters set.TooWide past placing region why =
       wide_tests (widest_line font (reverse characters)) ((line_after (reverse characters) + 1) * font.height) why.2,
     ) refl
 
-pub set-refused-as : (font : FontValue) (characters : List ℕ) (fault : SetFault) (past : Past) (placing : PlaceRow)
+pub set-refused-as : (font : FontValue) (characters : List ℕ) (fault : SetFault) (past : ScriptPast)
+    (placing : PlaceRow)
     (region : Region) (answer : RowFault) → answer ≡ row_fault_of fault → IsSetFault font characters fault
     → IsRowFault
     (first_of

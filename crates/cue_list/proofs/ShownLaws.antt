@@ -10,7 +10,7 @@ use Rattle.sub_base.specs.Picture.{Picture, IsPicture, code_at, picture_of}
 use Rattle.sub_base.specs.declared.depth.Depth.{Depth}
 use Rattle.sub_base.specs.declared.depth.Depth.TheVariants.{Two, Four, Eight}
 use Rattle.cue_list.specs.Authored.{epoch_at, lies_in, picture_at_place}
-use Rattle.cue_list.specs.Sound.{IsSound, IsEpoch, IsRegion, IsCue, AreApart, FitsRegion}
+use Rattle.cue_list.specs.Sound.{IsSoundScript, IsEpoch, IsRegion, IsCue, AreSeparate, FitsRegion}
 use Rattle.cue_list.specs.Planes.{FitsIn, AreCuesOf, ArePaintable}
 use Rattle.cue_list.specs.declared.epoch.Cue.{Cue}
 use Rattle.cue_list.specs.declared.epoch.Epoch.{Epoch}
@@ -51,7 +51,7 @@ region_within origin width height pictures epoch k other right inside =
 -- an epoch that is found is one of the script's, and right
 pub epoch_is_right : (origin width height refresh : ℕ) (epochs : List Epoch) (pictures : List Picture) (tick : ℕ)
     (epoch : Epoch) →
-    IsSound origin width height refresh epochs pictures → epoch_at epochs tick ≡ Some epoch
+    IsSoundScript origin width height refresh epochs pictures → epoch_at epochs tick ≡ Some epoch
     → IsEpoch origin width height pictures epoch
 epoch_is_right origin width height refresh epochs pictures tick epoch sound found =
     let there = Found-find (λ (one : Epoch). nat_le one.start tick) (reverse epochs) epoch found in
@@ -90,7 +90,7 @@ code_below picture right column row =
     ]
 
 -- of regions that are apart, the one that is found by its number
-region_named : (regions : List Region) (k : ℕ) (other found : Region) (name : ℕ) → AllPairs AreApart regions
+region_named : (regions : List Region) (k : ℕ) (other found : Region) (name : ℕ) → AllPairs AreSeparate regions
     → k < length regions → name ≡ (get_or regions k other).id →
     find (λ (region : Region). region.id == name) regions ≡ Some found → found ≡ get_or regions k other
 region_named regions k other found name apart inside names is_found =
@@ -149,7 +149,7 @@ FitsIn-decided pictures region cue not_not = record {
 }
 
 -- two regions that are apart have no place in common
-pub no_place_in_two : (column row : ℕ) (first second : Region) → AreApart first second
+pub no_place_in_two : (column row : ℕ) (first second : Region) → AreSeparate first second
     → lies_in column row first ≡ true → lies_in column row second ≡ true → ⊥
 no_place_in_two column row first second apart in_first in_second =
     elim apart.rows [
@@ -158,7 +158,7 @@ no_place_in_two column row first second apart in_first in_second =
     ]
 
 -- no region before one in which a place lies has this place
-pub none_before : (column row k : ℕ) (other : Region) (regions : List Region) → AllPairs AreApart regions
+pub none_before : (column row k : ℕ) (other : Region) (regions : List Region) → AllPairs AreSeparate regions
     → k < length regions → lies_in column row (get_or regions k other) ≡ true →
     (found : Region) → find (lies_in column row) (take k regions) ≡ Some found → ⊥
 none_before column row k other regions apart inside lies found is_found =
@@ -177,10 +177,10 @@ none_from (Some x) never = absurd (never x refl)
 -- the regions of an epoch that was found in a script can be painted
 pub ArePaintable-found : (origin width height refresh : ℕ) (epochs : List Epoch) (pictures : List Picture)
     (tick : ℕ) (epoch : Epoch) →
-    ∥ IsSound origin width height refresh epochs pictures ∥₁ → epoch_at epochs tick ≡ Some epoch
+    ∥ IsSoundScript origin width height refresh epochs pictures ∥₁ → epoch_at epochs tick ≡ Some epoch
     → ArePaintable width height pictures epoch.cues epoch.regions
 ArePaintable-found origin width height refresh epochs pictures tick epoch sound found =
-    let right : IsSound origin width height refresh epochs pictures → IsEpoch origin width height pictures epoch =
+    let right : IsSoundScript origin width height refresh epochs pictures → IsEpoch origin width height pictures epoch =
     λ s. epoch_is_right origin width height refresh epochs pictures tick epoch s found in
     record {
       across =

@@ -12,7 +12,7 @@ use Rattle.cue_list.specs.declared.row_values.PictureHead.{PictureHead}
 use Rattle.cue_list.specs.declared.row_kind.RowKind.TheVariants as kinds
 use Rattle.cue_list.specs.CellFaults.{value_at, number_fault, placing_cells, place_cells, cue_cells, epoch_cells, display_cells, refresh_cells}
 use Rattle.cue_list.specs.Cells.{cell_at}
-use Rattle.cue_list.specs.Past.{Past, is_close, region_with, head_by, cue_by, cue_with, with_last}
+use Rattle.cue_list.specs.Past.{ScriptPast, is_close, region_with, head_by, cue_by, cue_with, with_last}
 use Rattle.cue_list.specs.RowFaults.{is_used, share_row, has_room_at, is_early, head_at, regions_of}
 use Rattle.cue_list.specs.RowValues.{region_in, colour_in, head_in, placing_in, is_through}
 use Rattle.cue_list.specs.Rows.{Row}
@@ -25,7 +25,7 @@ use Rattle.cue_list.proofs.PastLaws.{row_with}
 use Rattle.cue_list.proofs.SoundLaws.{EpochFacts, EpochFacts-none, EpochFacts-new, EpochFacts-changed, EpochFacts-heads, TickFacts, TickFacts-new, TickFacts-same, TickFacts-colour, TickFacts-cue, colours_of, cues_of, in_last, sum-last, length-push}
 
 -- what is true of what is found by looking back over right records that name these ticks
-pub record SoundPast (past : Past) (ticks : List ℕ) : Type 0 where
+pub record SoundPast (past : ScriptPast) (ticks : List ℕ) : Type 0 where
   pub display : 2 ≤ past.rows → (1 ≤ past.width) × (past.width ≤ 1920) × (1 ≤ past.height)
       × (past.height ≤ 1080)
   pub refresh : 3 ≤ past.rows → (1 ≤ past.seconds) × (past.seconds ≤ 60)
@@ -57,12 +57,12 @@ no-epoch None rows late early = refl
 no-epoch (Some e) rows late early = absurd (let three = late refl in omega arith)
 
 -- the display and the refresh stand before the other records
-later-display : (past : Past) (ticks : List ℕ) → SoundPast past ticks → 3 ≤ past.rows → (1 ≤ past.width)
+later-display : (past : ScriptPast) (ticks : List ℕ) → SoundPast past ticks → 3 ≤ past.rows → (1 ≤ past.width)
     × (past.width ≤ 1920) × (1 ≤ past.height) × (past.height ≤ 1080)
 later-display past ticks sound three = sound.display (omega arith)
 
 -- a tick that is near none
-far-from : (past : Past) (ticks : List ℕ) (tick : ℕ)
+far-from : (past : ScriptPast) (ticks : List ℕ) (tick : ℕ)
     → ((t : ℕ) → past.is_near t ≡ list_any (is_close t) ticks) → past.is_near tick ≡ false
     → list_any (is_close tick) ticks ≡ false
 far-from past ticks tick near h = sym (near tick) ∙ h
@@ -86,7 +86,7 @@ placing-ticks origin cells h =
     let end = passed (number_fault origin (origin + LONGEST_SCRIPT) (cell_at cells 2)) _ start.1 in
     (tick-range origin (cell_at cells 1) start.0, tick-range origin (cell_at cells 2) end.0)
 
-placed-cue : (past : Past) (epoch : Epoch) (number k : ℕ) (cells : Row) (through : Bool) (region : Region)
+placed-cue : (past : ScriptPast) (epoch : Epoch) (number k : ℕ) (cells : Row) (through : Bool) (region : Region)
     (head : PictureHead) (heads : List PictureHead) → past.epoch ≡ Some epoch
     → IsRightPlacing past (placing_in cells) region head → IsTick past.origin (placing_in cells).start
     × IsTick past.origin (placing_in cells).end → slice_get heads k ≡ Some head
@@ -112,13 +112,13 @@ placed-cue past epoch number k cells through region head heads is placed ticks d
 
 -- ---- one record more, in the last epoch
 
-changed-epoch : (past : Past) (change : Epoch → Epoch) (epoch : Epoch) → past.epoch ≡ Some epoch
+changed-epoch : (past : ScriptPast) (change : Epoch → Epoch) (epoch : Epoch) → past.epoch ≡ Some epoch
     → option_map change past.epoch ≡ Some (change epoch)
 changed-epoch past change epoch is = ap (option_map change) is
 
 -- ---- each kind
 
-pub sound-origin : (font : FontValue) (past : Past) (ticks : List ℕ) (number : ℕ) (cells : Row)
+pub sound-origin : (font : FontValue) (past : ScriptPast) (ticks : List ℕ) (number : ℕ) (cells : Row)
     → SoundPast past ticks → IsRightRow font past kinds.Origin number cells
     → SoundPast (next_with font past (row_with kinds.Origin number cells)) ticks
 sound-origin font past ticks number cells sound row =
@@ -135,7 +135,7 @@ sound-origin font past ticks number cells sound row =
       cues_counted = sound.cues_counted;
     }
 
-pub sound-display : (font : FontValue) (past : Past) (ticks : List ℕ) (number : ℕ) (cells : Row)
+pub sound-display : (font : FontValue) (past : ScriptPast) (ticks : List ℕ) (number : ℕ) (cells : Row)
     → SoundPast past ticks → IsRightRow font past kinds.Display number cells
     → SoundPast (next_with font past (row_with kinds.Display number cells)) ticks
 unfolding display_cells
@@ -157,7 +157,7 @@ sound-display font past ticks number cells sound row =
       cues_counted = sound.cues_counted;
     }
 
-pub sound-refresh : (font : FontValue) (past : Past) (ticks : List ℕ) (number : ℕ) (cells : Row)
+pub sound-refresh : (font : FontValue) (past : ScriptPast) (ticks : List ℕ) (number : ℕ) (cells : Row)
     → SoundPast past ticks → IsRightRow font past kinds.Refresh number cells
     → SoundPast (next_with font past (row_with kinds.Refresh number cells)) ticks
 unfolding refresh_cells
@@ -185,7 +185,7 @@ room-epochs : (ended : List Epoch) (epoch : Option Epoch)
 room-epochs ended None h = not-least _ _ h
 room-epochs ended (Some epoch) h = not-least _ _ h
 
-pub sound-epoch : (font : FontValue) (past : Past) (ticks : List ℕ) (number : ℕ) (cells : Row)
+pub sound-epoch : (font : FontValue) (past : ScriptPast) (ticks : List ℕ) (number : ℕ) (cells : Row)
     → SoundPast past ticks → IsRightRow font past kinds.Epoch number cells
     → ((t : ℕ) → past.is_near t ≡ list_any (is_close t) ticks)
     → SoundPast (next_with font past (row_with kinds.Epoch number cells)) (value_at cells 1 ∷ ticks)
@@ -221,7 +221,7 @@ no-cues (cue ∷ cues) h = absurd (let none = not-less 0 (length (cue ∷ cues))
 unused : (epoch : Epoch) → is_used (Some epoch) ≡ false → epoch.cues ≡ []
 unused epoch h = no-cues epoch.cues (both-false (nat_lt 0 (length epoch.colours)) (nat_lt 0 (length epoch.cues)) h).1
 
-pub sound-region : (font : FontValue) (past : Past) (ticks : List ℕ) (number : ℕ) (cells : Row)
+pub sound-region : (font : FontValue) (past : ScriptPast) (ticks : List ℕ) (number : ℕ) (cells : Row)
     → SoundPast past ticks → IsRightRow font past kinds.Region number cells
     → SoundPast (next_with font past (row_with kinds.Region number cells)) ticks
 sound-region font past ticks number cells sound row =
@@ -272,7 +272,7 @@ sound-region font past ticks number cells sound row =
       cues_counted = omega arith;
     }
 
-pub sound-colour : (font : FontValue) (past : Past) (ticks : List ℕ) (number : ℕ) (cells : Row)
+pub sound-colour : (font : FontValue) (past : ScriptPast) (ticks : List ℕ) (number : ℕ) (cells : Row)
     → SoundPast past ticks → IsRightRow font past kinds.Colour number cells
     → ((t : ℕ) → past.is_near t ≡ list_any (is_close t) ticks)
     → SoundPast (next_with font past (row_with kinds.Colour number cells)) ((colour_in number cells).tick ∷ ticks)
@@ -321,7 +321,7 @@ sound-colour font past ticks number cells sound row near =
       cues_counted = omega arith;
     }
 
-pub sound-picture : (font : FontValue) (past : Past) (ticks : List ℕ) (number : ℕ) (cells : Row)
+pub sound-picture : (font : FontValue) (past : ScriptPast) (ticks : List ℕ) (number : ℕ) (cells : Row)
     → SoundPast past ticks → IsRightRow font past kinds.Picture number cells
     → SoundPast (next_with font past (row_with kinds.Picture number cells)) ticks
 sound-picture font past ticks number cells sound row =
@@ -340,7 +340,7 @@ sound-picture font past ticks number cells sound row =
     }
 
 -- a cue that is added to the last epoch, whose start and end are far from the ticks so far
-pub sound-cue-with : (past new : Past) (ticks : List ℕ) (epoch : Epoch) (cue : Cue) (more : List PictureHead)
+pub sound-cue-with : (past new : ScriptPast) (ticks : List ℕ) (epoch : Epoch) (cue : Cue) (more : List PictureHead)
     → SoundPast past ticks → past.epoch ≡ Some epoch
     → new ≡ record past {
       rows = past.rows + 1;
@@ -375,7 +375,7 @@ sound-cue-with past new ticks epoch cue more sound is made right start_far end_f
     let few_before = sound.few in
     let colours_before = sound.colours_counted in
     let cues_before = sound.cues_counted in
-    subst (λ (p : Past). SoundPast p (cue.start ∷ cue.end ∷ ticks)) (sym made) (record {
+    subst (λ (p : ScriptPast). SoundPast p (cue.start ∷ cue.end ∷ ticks)) (sym made) (record {
       display = λ _. later-display past ticks sound three;
       refresh = λ _. sound.refresh three;
       late = λ _. omega arith;
@@ -390,7 +390,7 @@ append-none : {A : Type 0} (xs : List A) → xs ≡ xs ++ []
 append-none [] = refl
 append-none (x ∷ xs) = ap (λ ys. x ∷ ys) (append-none xs)
 
-pub sound-place : (font : FontValue) (past : Past) (ticks : List ℕ) (number : ℕ) (cells : Row)
+pub sound-place : (font : FontValue) (past : ScriptPast) (ticks : List ℕ) (number : ℕ) (cells : Row)
     → SoundPast past ticks → IsRightRow font past kinds.Place number cells
     → ((t : ℕ) → past.is_near t ≡ list_any (is_close t) ticks)
     → SoundPast (next_with font past (row_with kinds.Place number cells))
@@ -429,7 +429,7 @@ unfolding placing_in
 region-head font regions cells region found =
     ap (option_map (λ (r : Region). text_head font r.depth (chars (cell_at cells 8)))) found
 
-pub sound-cue : (font : FontValue) (past : Past) (ticks : List ℕ) (number : ℕ) (cells : Row)
+pub sound-cue : (font : FontValue) (past : ScriptPast) (ticks : List ℕ) (number : ℕ) (cells : Row)
     → SoundPast past ticks → IsRightRow font past kinds.Cue number cells
     → ((t : ℕ) → past.is_near t ≡ list_any (is_close t) ticks)
     → SoundPast (next_with font past (row_with kinds.Cue number cells))

@@ -16,12 +16,12 @@ use Rattle.cue_list.specs.declared.row_kind.RowKind.TheVariants as kinds
 use Rattle.cue_list.specs.declared.script.Script.{Script}
 use Rattle.cue_list.specs.Cells.{cell_at}
 use Rattle.cue_list.specs.Drawn.{Brings}
-use Rattle.cue_list.specs.Past.{Past, area, looking_back, last_epoch, regions_in, ticks_in, with_last}
+use Rattle.cue_list.specs.Past.{ScriptPast, area, looking_back, last_epoch, regions_in, ticks_in, with_last}
 use Rattle.cue_list.specs.Records.{Record, kind_of, record_of, record_at, records_from, records_before}
 use Rattle.cue_list.specs.RowFaults.{fault_of, fault_with, regions_of}
 use Rattle.cue_list.specs.Rows.{Row, rows_of}
-use Rattle.cue_list.specs.ScriptRows.{AreDrawn, AreRight, Lists}
-use Rattle.cue_list.specs.Sound.{IsSound}
+use Rattle.cue_list.specs.ScriptRows.{AreDrawn, AreRightRecords, Lists}
+use Rattle.cue_list.specs.Sound.{IsSoundScript}
 use Rattle.cue_list.specs.TakenRows.{CanGoBack, IsRecordFault, IsScriptOf, Kept, Mark, StandsFor, TakesRow, heads_of, nearest, next_fault, numbered, without_heads}
 use Rattle.cue_list.specs.Private.State.{IsReader, IsRowFault, next_with, past_of, head_of}
 use Rattle.cue_list.specs.Private.Taken.{kept_of, told_fault}
@@ -75,7 +75,7 @@ before-all rows =
 -- how many records were taken
 pub rows-counted : (font : FontValue) (rows : List Row) (kept : Kept) → StandsFor font rows kept
     → kept.past.rows ≡ length rows
-rows-counted font rows kept stands = ap (λ (past : Past). past.rows) stands.found ∙ length-nearest rows
+rows-counted font rows kept stands = ap (λ (past : ScriptPast). past.rows) stands.found ∙ length-nearest rows
 
 -- there are no more records left behind one than bytes
 pub few-left : (text : List ℕ) (all rest : List Row) (cells : Row) (found : Bool) → all ≡ rows_of text → found ≡ true
@@ -104,7 +104,7 @@ pub next_fault-kept : (font : FontValue) (rows : List Row) (cells : Row) (kept :
     → fault_with font kept.past (record_of (kept.past.rows + 1) cells) ≡ next_fault font rows cells
 next_fault-kept font rows cells kept stands =
     ap (λ (n : ℕ). fault_with font kept.past (record_of (n + 1) cells)) (rows-counted font rows kept stands)
-    ∙ ap (λ (past : Past). fault_with font past (record_behind rows cells)) stands.found
+    ∙ ap (λ (past : ScriptPast). fault_with font past (record_behind rows cells)) stands.found
 
 module _ (font : FontValue) (rows : List Row) (cells : Row) where
   abbrev row : Record
@@ -134,8 +134,8 @@ module _ (font : FontValue) (rows : List Row) (cells : Row) where
   at-last =
       ap (λ (n : ℕ). record_at new_all n) (sym long) ∙ get_or-append_seam old_all row [] (record_of 0 [])
 
-  right-more : AreRight font old_all (length rows) → next_fault font rows cells ≡ None
-      → AreRight font (numbered (rows ++ cells ∷ [])) (length (rows ++ cells ∷ []))
+  right-more : AreRightRecords font old_all (length rows) → next_fault font rows cells ≡ None
+      → AreRightRecords font (numbered (rows ++ cells ∷ [])) (length (rows ++ cells ∷ []))
   right-more old now =
       let count = length-more rows cells in
       let counted = length-numbered 1 (rows ++ cells ∷ []) in
@@ -169,15 +169,15 @@ module _ (font : FontValue) (rows : List Row) (cells : Row) where
       sym (next_fault-kept font rows cells old stands) ∙ right in
       let begun : row.kind ≡ kinds.Cue → is_some (last_epoch font earlier) ≡ true =
       λ (is : row.kind ≡ kinds.Cue).
-      ap (λ (past : Past). is_some past.epoch) (sym stands.found)
+      ap (λ (past : ScriptPast). is_some past.epoch) (sym stands.found)
       ∙ cue-open font old.past row.kind (old.past.rows + 1) cells right is in
       let regions : row.kind ≡ kinds.Cue → regions_of old.past.epoch ≡ regions_in earlier =
       λ (is : row.kind ≡ kinds.Cue).
-      ap (λ (past : Past). regions_of past.epoch) stands.found ∙ regions-last font earlier (begun is) in
+      ap (λ (past : ScriptPast). regions_of past.epoch) stands.found ∙ regions-last font earlier (begun is) in
       let found : new.past ≡ looking_back font (row ∷ earlier) =
       kept
       ∙ (ap (λ (n : ℕ). next_with font old.past (record_of (n + 1) cells)) count
-      ∙ (ap (λ (past : Past). next_with font past row) stands.found
+      ∙ (ap (λ (past : ScriptPast). next_with font past row) stands.found
       ∙ sym (looking-back-more font earlier row begun))) in
       let drawn : AreDrawn font (row ∷ earlier) new.pictures = (
         old.pictures,
@@ -341,7 +341,7 @@ back-inside font rows reader kept new count old mark seen marked is cut back =
 -- what a reader keeps for rows with an epoch is sound
 pub IsSound-stands : (font : FontValue) (rows : List Row) (kept : Reader) → IsReader kept
     → StandsFor font rows (kept_of kept) → is_some kept.epoch ≡ true
-    → IsSound kept.origin kept.width kept.height (90000 * kept.seconds) (with_last kept.ended.items kept.epoch)
+    → IsSoundScript kept.origin kept.width kept.height (90000 * kept.seconds) (with_last kept.ended.items kept.epoch)
     kept.pictures.items
 IsSound-stands font rows kept reader stands some =
     let earlier = nearest rows in
@@ -349,10 +349,10 @@ IsSound-stands font rows kept reader stands some =
     subst (λ (rs : List Record). SoundPast (looking_back font rs) (ticks_in rs)) (before-all rows)
     (sound-rows font (numbered rows) (length rows) stands.right) in
     let heads : map head_of kept.pictures.items ≡ (looking_back font earlier).heads =
-    ap (λ (past : Past). past.heads) stands.found in
-    let codes : kept.codes ≡ (looking_back font earlier).codes = ap (λ (past : Past). past.codes) stands.found in
+    ap (λ (past : ScriptPast). past.heads) stands.found in
+    let codes : kept.codes ≡ (looking_back font earlier).codes = ap (λ (past : ScriptPast). past.codes) stands.found in
     IsSound-kept kept (ticks_in earlier) reader
-    (subst (λ (past : Past). SoundPast past (ticks_in earlier)) (sym stands.found) sound) some
+    (subst (λ (past : ScriptPast). SoundPast past (ticks_in earlier)) (sym stands.found) sound) some
     (whole-pictures font earlier kept.pictures.items stands.drawn)
     (codes ∙ ap (sum_by area) (sym heads))
 
@@ -371,13 +371,14 @@ few-stands kept reader stands some =
 
 pub script-sound : (kept : Reader) (epochs : List Epoch) (pictures : List Picture) → IsReader kept → AreSomeRows kept
     → is_some kept.epoch ≡ true → epochs ≡ with_last kept.ended.items kept.epoch → pictures ≡ kept.pictures.items
-    → ∥ IsSound kept.origin kept.width kept.height (90000 * kept.seconds) epochs pictures ∥₁
+    → ∥ IsSoundScript kept.origin kept.width kept.height (90000 * kept.seconds) epochs pictures ∥₁
 script-sound kept epochs pictures reader stands some epochs_are pictures_are =
     ∥∥₁_map stands
-    (λ x. subst (λ (es : List Epoch). IsSound kept.origin kept.width kept.height (90000 * kept.seconds) es pictures)
+    (λ x. subst
+    (λ (es : List Epoch). IsSoundScript kept.origin kept.width kept.height (90000 * kept.seconds) es pictures)
     (sym epochs_are)
     (subst
-    (λ (ps : List Picture). IsSound kept.origin kept.width kept.height (90000 * kept.seconds)
+    (λ (ps : List Picture). IsSoundScript kept.origin kept.width kept.height (90000 * kept.seconds)
     (with_last kept.ended.items kept.epoch) ps)
     (sym pictures_are) (IsSound-stands x.0 x.1 kept reader x.2 some)))
 
@@ -393,16 +394,16 @@ IsScriptOf-stands font rows kept script stands some origin width height refresh 
     let long : length rows ≡ length (numbered rows) = sym (length-numbered 1 rows) in
     let listed : Lists font (nearest rows) script.origin script.width script.height script.refresh script.epochs
     script.pictures = record {
-      origin_is = origin ∙ ap (λ (past : Past). past.origin) found;
-      width_is = width ∙ ap (λ (past : Past). past.width) found;
-      height_is = height ∙ ap (λ (past : Past). past.height) found;
-      refresh_is = refresh ∙ ap (λ (past : Past). SECOND * past.seconds) found;
-      some_epoch = ap (λ (past : Past). is_some past.epoch) (sym found) ∙ some;
-      epochs_are = epochs ∙ ap (λ (past : Past). with_last past.ended past.epoch) found;
+      origin_is = origin ∙ ap (λ (past : ScriptPast). past.origin) found;
+      width_is = width ∙ ap (λ (past : ScriptPast). past.width) found;
+      height_is = height ∙ ap (λ (past : ScriptPast). past.height) found;
+      refresh_is = refresh ∙ ap (λ (past : ScriptPast). SECOND * past.seconds) found;
+      some_epoch = ap (λ (past : ScriptPast). is_some past.epoch) (sym found) ∙ some;
+      epochs_are = epochs ∙ ap (λ (past : ScriptPast). with_last past.ended past.epoch) found;
       pictures_are = subst (AreDrawn font (nearest rows)) (sym pictures) stands.drawn;
     } in
     record {
-      right = subst (AreRight font (numbered rows)) long stands.right;
+      right = subst (AreRightRecords font (numbered rows)) long stands.right;
       lists =
           subst (λ (n : ℕ). Lists font (records_before (numbered rows) n) script.origin script.width script.height
           script.refresh script.epochs script.pictures) long

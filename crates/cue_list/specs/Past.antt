@@ -180,7 +180,7 @@ is_cue_kind kinds.Cue = true
 is_cue_kind _ = false
 
 -- what is found by looking back over records
-pub record Past : Type 0 where
+pub record ScriptPast : Type 0 where
   pub rows : ℕ
   pub origin : ℕ
   pub width : ℕ
@@ -196,7 +196,7 @@ pub record Past : Type 0 where
   pub is_near : ℕ → Bool
   pub named : List ℕ → Option ℕ
 
-abbrev pub looking_back : FontValue → List Record → Past
+abbrev pub looking_back : FontValue → List Record → ScriptPast
 looking_back font earlier = record {
   rows = length earlier;
   origin = number_in kinds.Origin 1 earlier;

@@ -21,7 +21,7 @@ use Rattle.cue_list.specs.declared.row_kind.RowKind.TheVariants as kinds
 use Rattle.cue_list.specs.CellFaults.{first_of, fails, value_at, cells_fault, is_text_row}
 use Rattle.cue_list.specs.Cells.{cell_at}
 use Rattle.cue_list.specs.Codes.{hex_value}
-use Rattle.cue_list.specs.Past.{Past, area, is_close, region_with, looking_back}
+use Rattle.cue_list.specs.Past.{ScriptPast, area, is_close, region_with, looking_back}
 use Rattle.cue_list.specs.PixelRuns.{is_in_runs, pixel_count, runs_in}
 use Rattle.cue_list.specs.Records.{Record, cells_of}
 use Rattle.cue_list.specs.RowValues.{region_in, colour_in, head_in, placing_in}
@@ -37,7 +37,7 @@ is_used (Some epoch) = nat_lt 0 (length epoch.colours) || nat_lt 0 (length epoch
 
 -- origin, display and refresh are the first three records; a region needs an epoch without colour, place or cue so far,
 -- and these need an epoch
-abbrev pub is_misplaced : Past → RowKind → Bool
+abbrev pub is_misplaced : ScriptPast → RowKind → Bool
 is_misplaced past kinds.Origin = not (past.rows == 0)
 is_misplaced past kinds.Display = not (past.rows == 1)
 is_misplaced past kinds.Refresh = not (past.rows == 2)
@@ -55,11 +55,11 @@ regions_of None = []
 regions_of (Some epoch) = epoch.regions
 
 -- how many epochs there are
-abbrev pub epoch_count : Past → ℕ
+abbrev pub epoch_count : ScriptPast → ℕ
 epoch_count past = length past.ended + (if is_some past.epoch then 1 else 0)
 
 -- one more of that kind would be too many
-abbrev pub is_full : Past → RowKind → Bool
+abbrev pub is_full : ScriptPast → RowKind → Bool
 is_full past kinds.Epoch = nat_le MOST_EPOCHS (epoch_count past)
 is_full past kinds.Region = nat_le MOST_REGIONS (length (regions_of past.epoch))
 is_full past kinds.Colour = nat_le MOST_COLOURS past.colours
@@ -69,7 +69,7 @@ is_full past kinds.Cue = nat_le MOST_CUES past.cues
 is_full past _ = false
 
 -- with that many codes more there would be too many
-abbrev pub are_too_many : Past → PictureHead → Bool
+abbrev pub are_too_many : ScriptPast → PictureHead → Bool
 are_too_many past head = nat_lt MOST_CODES (past.codes + area head)
 
 -- ---- epochs, regions and colours
@@ -86,7 +86,7 @@ lasts_past tick (Some epoch) =
     list_any (λ cue. nat_lt tick cue.end) epoch.cues || list_any (λ row. nat_le tick row.tick) epoch.colours
 
 -- a new epoch's start
-unfoldable pub epoch_fault : Past → ℕ → Option ScriptKind
+unfoldable pub epoch_fault : ScriptPast → ℕ → Option ScriptKind
 epoch_fault past start = first_of (
     fails (not (starts_before start past.epoch)) faults.Order
     ∷ fails (lasts_past start past.epoch) faults.OutsideEpoch
@@ -101,7 +101,7 @@ lies_on width height region = nat_le (region.x + region.width) width && nat_le (
 abbrev pub share_row : Region → Region → Bool
 share_row first second = nat_lt first.y (second.y + second.height) && nat_lt second.y (first.y + first.height)
 
-unfoldable pub region_fault : Past → Region → Option ScriptKind
+unfoldable pub region_fault : ScriptPast → Region → Option ScriptKind
 region_fault past region = first_of (
     fails (is_some (region_with region.id (regions_of past.epoch))) faults.DoubleRegion
     ∷ fails (not (lies_on past.width past.height region)) faults.RegionOutside
@@ -113,7 +113,7 @@ abbrev pub is_early : ℕ → Option Epoch → Bool
 is_early tick None = false
 is_early tick (Some epoch) = nat_lt tick epoch.start
 
-unfoldable pub colour_fault : Past → ColourRow → Option ScriptKind
+unfoldable pub colour_fault : ScriptPast → ColourRow → Option ScriptKind
 colour_fault past row = first_of (
     fails (not (nat_lt row.entry (code_count row.depth))) faults.CodeRange
     ∷ fails (is_early row.tick past.epoch) faults.OutsideEpoch
@@ -165,7 +165,7 @@ pixels_fault head text =
 abbrev pub is_name : List ℕ → Bool
 is_name name = nat_le 1 (length name) && nat_le (length name) LONGEST_NAME
 
-unfoldable pub picture_fault : Past → PictureHead → Row → Option ScriptKind
+unfoldable pub picture_fault : ScriptPast → PictureHead → Row → Option ScriptKind
 picture_fault past head cells = first_of (
     fails (not (is_name (cell_at cells 1))) faults.Range
     ∷ pixels_fault head (cell_at cells 5)
@@ -179,7 +179,7 @@ abbrev pub has_room_at : Region → ℕ → ℕ → PictureHead → Bool
 has_room_at region x y head = nat_le (x + head.width) region.width && nat_le (y + head.height) region.height
 
 -- a span of ticks in an epoch
-unfoldable pub span_fault : Past → ℕ → ℕ → Option ScriptKind
+unfoldable pub span_fault : ScriptPast → ℕ → ℕ → Option ScriptKind
 span_fault past start end = first_of (
     fails (is_early start past.epoch) faults.OutsideEpoch
     ∷ fails (nat_le end start) faults.EmptySpan
@@ -188,7 +188,7 @@ span_fault past start end = first_of (
     ∷ [])
 
 -- a picture at a place of a region
-abbrev pub placed_fault : Past → PlaceRow → Option Region → Option PictureHead → Option ScriptKind
+abbrev pub placed_fault : ScriptPast → PlaceRow → Option Region → Option PictureHead → Option ScriptKind
 placed_fault past placing None head = Some faults.NoRegion
 placed_fault past placing (Some region) None = Some faults.NoPicture
 placed_fault past placing (Some region) (Some head) = first_of (
@@ -202,7 +202,7 @@ abbrev pub head_at : List PictureHead → Option ℕ → Option PictureHead
 head_at heads None = None
 head_at heads (Some place) = slice_get heads place
 
-unfoldable pub place_fault : Past → PlaceRow → List ℕ → Option ScriptKind
+unfoldable pub place_fault : ScriptPast → PlaceRow → List ℕ → Option ScriptKind
 place_fault past placing name =
     placed_fault past placing (region_with placing.region (regions_of past.epoch))
     (head_at past.heads (past.named name))
@@ -213,7 +213,7 @@ glyph_fault None = None
 glyph_fault (Some character) = Some (faults.Glyph character)
 
 -- a text's picture at a place of a region
-abbrev pub text_fault : Past → PlaceRow → Region → PictureHead → Option ScriptKind
+abbrev pub text_fault : ScriptPast → PlaceRow → Region → PictureHead → Option ScriptKind
 text_fault past placing region head = first_of (
     fails (head.width == 0) faults.Range
     ∷ fails (nat_lt MOST_WIDTH head.width || nat_lt MOST_HEIGHT head.height
@@ -223,7 +223,7 @@ text_fault past placing region head = first_of (
     ∷ fails (are_too_many past head) faults.TooMany
     ∷ [])
 
-abbrev pub set_fault : FontValue → Past → PlaceRow → ℕ → ℕ → List ℕ → Option Region
+abbrev pub set_fault : FontValue → ScriptPast → PlaceRow → ℕ → ℕ → List ℕ → Option Region
     → Option ScriptKind
 set_fault font past placing ink paper characters None = Some faults.NoRegion
 set_fault font past placing ink paper characters (Some region) = first_of (
@@ -232,14 +232,14 @@ set_fault font past placing ink paper characters (Some region) = first_of (
     ∷ text_fault past placing region (text_head font region.depth characters)
     ∷ [])
 
-unfoldable pub cue_fault : FontValue → Past → PlaceRow → ℕ → ℕ → List ℕ → Option ScriptKind
+unfoldable pub cue_fault : FontValue → ScriptPast → PlaceRow → ℕ → ℕ → List ℕ → Option ScriptKind
 cue_fault font past placing ink paper characters =
     set_fault font past placing ink paper characters (region_with placing.region (regions_of past.epoch))
 
 -- ---- all tests
 
 -- the tests of a record's kind
-abbrev pub kind_fault : FontValue → Past → RowKind → ℕ → Row → Option ScriptKind
+abbrev pub kind_fault : FontValue → ScriptPast → RowKind → ℕ → Row → Option ScriptKind
 kind_fault font past kinds.Epoch number cells = epoch_fault past (value_at cells 1)
 kind_fault font past kinds.Region number cells = region_fault past (region_in cells)
 kind_fault font past kinds.Colour number cells = colour_fault past (colour_in number cells)
@@ -263,7 +263,7 @@ shape_fault kind cells = first_of (
     ∷ [])
 
 -- the first test of a record that fails
-abbrev pub fault_with : FontValue → Past → Record → Option ScriptKind
+abbrev pub fault_with : FontValue → ScriptPast → Record → Option ScriptKind
 fault_with font past row = first_of (
     shape_fault row.kind row.cells
     ∷ fails (is_misplaced past row.kind) faults.Order

@@ -15,7 +15,7 @@ use Rattle.cue_list.specs.RowFaults.{fault_of}
 use Rattle.sub_base.specs.declared.pace.TheConstants.{SECOND}
 
 -- the first n records are right, each judged by those before it
-pub record AreRight (font : FontValue) (all : List Record) (n : ℕ) : Type 0 where
+pub record AreRightRecords (font : FontValue) (all : List Record) (n : ℕ) : Type 0 where
   pub there : n ≤ length all
   pub right : (k : ℕ) → k < n → fault_of font (records_before all k) (record_at all k) ≡ None
 
@@ -40,7 +40,7 @@ pub record Lists (font : FontValue) (rows : List Record) (origin width height re
 -- the bytes are a script: all its records are right, and they list these values
 pub record IsScript (bytes : List ℕ) (font : FontValue) (origin width height refresh : ℕ) (epochs : List Epoch)
     (pictures : List Picture) : Type 0 where
-  pub right : AreRight font (records_of bytes) (length (records_of bytes))
+  pub right : AreRightRecords font (records_of bytes) (length (records_of bytes))
   pub lists : Lists font (records_before (records_of bytes) (length (records_of bytes))) origin width height refresh
       epochs pictures
 
@@ -55,10 +55,10 @@ pub record HasValues (origin width height refresh : ℕ) (epochs : List Epoch) (
   pub pictures_are : script.pictures ≡ pictures
 
 -- a record, counted from 1, is the first that is wrong, and for what: or all are right, but none starts an epoch
-pub record IsRefused (bytes : List ℕ) (font : FontValue) (row : ℕ) (kind : ScriptKind) : Type 0 where
+pub record IsRefusedRecord (bytes : List ℕ) (font : FontValue) (row : ℕ) (kind : ScriptKind) : Type 0 where
   pub before : ℕ
   pub number : row ≡ before + 1
-  pub right : AreRight font (records_of bytes) before
+  pub right : AreRightRecords font (records_of bytes) before
   pub wrong : ((before < length (records_of bytes))
       × (fault_of font (records_before (records_of bytes) before) (record_at (records_of bytes) before) ≡ Some kind))
       ⊎ ((before ≡ length (records_of bytes))
@@ -67,8 +67,8 @@ pub record IsRefused (bytes : List ℕ) (font : FontValue) (row : ℕ) (kind : S
 -- why bytes are no script
 abbrev pub IsScriptFault : List ℕ → FontValue → ScriptFault → Type 0
 IsScriptFault bytes font Memory = ⊤
-IsScriptFault bytes font (Refused row kind) = IsRefused bytes font row kind
+IsScriptFault bytes font (Refused row kind) = IsRefusedRecord bytes font row kind
 
 -- this fault is answered, or want of memory
-abbrev pub IsRefusal : {T : Type 0} → ScriptFault → Result T ScriptFault → Type 0
-IsRefusal fault result = MatchResult result (λ _. ⊥) (λ told. (told ≡ Memory) ⊎ (told ≡ fault))
+abbrev pub AnswersScriptFault : {T : Type 0} → ScriptFault → Result T ScriptFault → Type 0
+AnswersScriptFault fault result = MatchResult result (λ _. ⊥) (λ told. (told ≡ Memory) ⊎ (told ≡ fault))

@@ -26,7 +26,7 @@ pub record IsRegion (width height : ℕ) (region : Region) : Type 0 where
   pub down : region.y + region.height ≤ height
 
 -- two regions have different numbers, and one lies below the other
-pub record AreApart (first second : Region) : Type 0 where
+pub record AreSeparate (first second : Region) : Type 0 where
   pub ids : first.id ≢ second.id
   pub rows : (first.y + first.height ≤ second.y) ⊎ (second.y + second.height ≤ first.y)
 
@@ -34,7 +34,7 @@ pub record AreApart (first second : Region) : Type 0 where
 pub record AreRegions (width height : ℕ) (regions : List Region) : Type 0 where
   pub many : length regions ≤ MOST_REGIONS
   pub each : All (IsRegion width height) regions
-  pub apart : AllPairs AreApart regions
+  pub apart : AllPairs AreSeparate regions
 
 -- a colour of an entry that its depth has, as it is shown, from a tick in the epoch on
 pub record IsColourRow (origin start : ℕ) (row : ColourRow) : Type 0 where
@@ -89,7 +89,8 @@ pub record Follows (earlier later : Epoch) : Type 0 where
   pub cues : All (λ cue. cue.end ≤ later.start) earlier.cues
 
 -- a script's display, refresh, epochs and pictures are right, and within the limits
-pub record IsSound (origin width height refresh : ℕ) (epochs : List Epoch) (pictures : List Picture) : Type 0 where
+pub record IsSoundScript (origin width height refresh : ℕ) (epochs : List Epoch)
+    (pictures : List Picture) : Type 0 where
   pub early : origin ≤ LATEST_ORIGIN
   pub wide : (1 ≤ width) × (width ≤ MOST_WIDTH)
   pub high : (1 ≤ height) × (height ≤ MOST_HEIGHT)

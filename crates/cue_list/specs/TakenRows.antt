@@ -7,11 +7,11 @@ use Rattle.cue_list.specs.declared.row_values.PictureHead.{PictureHead}
 use Rattle.cue_list.specs.declared.script.Script.{Script}
 use Rattle.cue_list.specs.declared.script_reader.RecordFault.{RecordFault}
 use Rattle.cue_list.specs.declared.script_reader.RecordFault.TheVariants as record_faults
-use Rattle.cue_list.specs.Past.{Past, looking_back}
+use Rattle.cue_list.specs.Past.{ScriptPast, looking_back}
 use Rattle.cue_list.specs.Records.{Record, record_of, records_from, records_before}
 use Rattle.cue_list.specs.RowFaults.{fault_of}
 use Rattle.cue_list.specs.Rows.{Row}
-use Rattle.cue_list.specs.ScriptRows.{AreDrawn, AreRight, Lists}
+use Rattle.cue_list.specs.ScriptRows.{AreDrawn, AreRightRecords, Lists}
 
 -- ---- rows as records
 
@@ -29,7 +29,7 @@ next_fault font rows cells = fault_of font (nearest rows) (record_of (length row
 
 -- a script is that of these records: all of them are right, and they list its values
 pub record IsScriptOf (font : FontValue) (records : List Record) (script : Script) : Type 0 where
-  pub right : AreRight font records (length records)
+  pub right : AreRightRecords font records (length records)
   pub lists : Lists font (records_before records (length records)) script.origin script.width script.height
       script.refresh script.epochs script.pictures
 
@@ -42,12 +42,12 @@ IsRecordFault fault (record_faults.Wrong kind) = fault ≡ Some kind
 
 -- what a reader keeps: what looking back over its records finds, and their pictures
 pub record Kept : Type 0 where
-  pub past : Past
+  pub past : ScriptPast
   pub pictures : List Picture
 
 -- the reader took these rows: each is right by those before it, and what it keeps is what they say
 pub record StandsFor (font : FontValue) (rows : List Row) (kept : Kept) : Type 0 where
-  pub right : AreRight font (numbered rows) (length rows)
+  pub right : AreRightRecords font (numbered rows) (length rows)
   pub found : kept.past ≡ looking_back font (nearest rows)
   pub drawn : AreDrawn font (nearest rows) kept.pictures
 
@@ -59,12 +59,12 @@ heads_of pictures =
     map (λ picture. record { depth = picture.depth; width = picture.width; height = picture.height }) pictures
 
 -- what is known of the records without their pictures
-abbrev pub without_heads : Past → Past
+abbrev pub without_heads : ScriptPast → ScriptPast
 without_heads past = record past { heads = [] }
 
 -- what was kept before a row, but for the pictures, and how many these were
 pub record Mark : Type 0 where
-  pub past : Past
+  pub past : ScriptPast
   pub count : ℕ
 
 -- a reader that has taken one row more can go back to where it stood for these rows

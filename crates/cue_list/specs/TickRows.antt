@@ -7,7 +7,7 @@ use Rattle.cue_list.specs.declared.row_kind.RowKind.{RowKind}
 use Rattle.cue_list.specs.declared.row_kind.RowKind.TheVariants as kinds
 use Rattle.cue_list.specs.CellFaults.{first_of, fails, value_at, tick_fault, is_text_row}
 use Rattle.cue_list.specs.Cells.{cell_at}
-use Rattle.cue_list.specs.Past.{Past}
+use Rattle.cue_list.specs.Past.{ScriptPast}
 use Rattle.cue_list.specs.Rows.{Row}
 
 -- a row is a tick row by its first cell
@@ -21,7 +21,7 @@ is_not_above (Some last) tick = nat_le tick last
 
 -- the first test of `tick`, T that fails, behind what is known of the records so far and the last tick: a tick needs
 -- the origin's record, and lies above the last one
-abbrev pub tick_row_fault : Past → Option ℕ → Row → Option ScriptKind
+abbrev pub tick_row_fault : ScriptPast → Option ℕ → Row → Option ScriptKind
 tick_row_fault past last cells = first_of (
     fails (not (is_text_row cells)) faults.NotUtf8
     ∷ fails (not (length cells == 2)) faults.Count
@@ -31,7 +31,7 @@ tick_row_fault past last cells = first_of (
     ∷ [])
 
 -- the first tick that a row of that kind has a part in: its own, and for a region the start of its epoch
-abbrev pub first_tick : Past → RowKind → Row → Option ℕ
+abbrev pub first_tick : ScriptPast → RowKind → Row → Option ℕ
 first_tick past kinds.Epoch cells = Some (value_at cells 1)
 first_tick past kinds.Place cells = Some (value_at cells 1)
 first_tick past kinds.Cue cells = Some (value_at cells 1)

@@ -1,14 +1,14 @@
 ghost use Rattle.std.specs.Prelude.{◌≡◌, ◌≢◌, ◌+◌, ◌<◌, ◌^◌, ℕ, List, [], true, length, is_some, IfOk, IfErr, MatchResult};
 ghost use Rattle.cue_list.specs.Private.HasRead.{HasRead};
 ghost use Rattle.cue_list.specs.Records.{records_of};
-ghost use Rattle.cue_list.specs.ScriptRows.{IsRefusal, IsScriptFault};
+ghost use Rattle.cue_list.specs.ScriptRows.{AnswersScriptFault, IsScriptFault};
 ghost use Rattle.sub_base.specs.Picture.{Picture};
 ghost use Rattle.std.specs.Prelude.{Err, None};
 ghost use Rattle.cue_list.specs.declared.fault.ScriptKind.TheVariants.{Order};
 ghost use Rattle.cue_list.specs.declared.fault.ScriptFault.TheVariants.{Memory, Refused};
 ghost use Rattle.cue_list.specs.Past.{with_last};
 ghost use Rattle.cue_list.specs.ScriptRows.{HasValues, IsScript};
-ghost use Rattle.cue_list.specs.Sound.{IsSound};
+ghost use Rattle.cue_list.specs.Sound.{IsSoundScript};
 
 use crate::epoch::Epoch;
 use crate::fault::{ScriptFault, ScriptKind};
@@ -31,7 +31,7 @@ impl Script {
             (λ script. IsScript bytes.now font.now script.origin script.width script.height
             script.refresh script.epochs script.pictures) }
         ensures sound { IfOk result
-            (λ script. IsSound script.origin script.width script.height script.refresh
+            (λ script. IsSoundScript script.origin script.width script.height script.refresh
             script.epochs
             script.pictures) }
         ensures refused { IfErr result (IsScriptFault bytes.now font.now) }
@@ -44,7 +44,7 @@ impl Script {
             → MatchResult result (HasValues origin width height refresh epochs pictures)
             (λ fault. fault ≡ Memory) }
         ensures every_fault { (fault : ScriptFault) → IsScriptFault bytes.now font.now fault
-            → fault ≢ Memory → IsRefusal fault result }
+            → fault ≢ Memory → AnswersScriptFault fault result }
     {
         script_of(alloc, bytes, font)
     }
@@ -56,7 +56,8 @@ fn script_of(alloc: Global, bytes: &[u8], font: &Font) -> Result<Script, ScriptF
         (λ script. IsScript bytes.now font.now script.origin script.width script.height
         script.refresh script.epochs script.pictures) }
     ensures sound { IfOk result
-        (λ script. IsSound script.origin script.width script.height script.refresh script.epochs
+        (λ script. IsSoundScript script.origin script.width script.height script.refresh
+        script.epochs
         script.pictures) }
     ensures refused { IfErr result (IsScriptFault bytes.now font.now) }
 {

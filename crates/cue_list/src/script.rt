@@ -1,5 +1,5 @@
 ghost use Rattle.std.specs.Prelude.{◌≡◌, length};
-ghost use Rattle.cue_list.specs.Sound.{IsSound};
+ghost use Rattle.cue_list.specs.Sound.{IsSoundScript};
 
 use crate::epoch::Epoch;
 use indexed_picture::Indexed;
@@ -24,7 +24,7 @@ pub struct Script {
     /// The pictures of the script's picture and cue records, in the order of the records.
     pub pictures: Pictures,
     /// What each script keeps to, as its records passed their tests.
-    pub ghost sound: { ∥ IsSound origin width height refresh epochs pictures ∥₁ },
+    pub ghost sound: { ∥ IsSoundScript origin width height refresh epochs pictures ∥₁ },
 }
 
 /// The pictures of a script, in order. Contracts see the list of them.

@@ -19,19 +19,19 @@ pub data Reading : Type 0 where
   faulty : SegmentFault → Reading
 
 -- the sub-blocks of an object's two fields (7.2.5), in strings of up to eight bits; other segments have none
-abbrev pub AreFields : SegmentValue → List Part → List Part → Type 0
-AreFields (of_page value) top bottom = (top ≡ []) × (bottom ≡ [])
-AreFields (of_region value) top bottom = (top ≡ []) × (bottom ≡ [])
-AreFields (of_clut value) top bottom = (top ≡ []) × (bottom ≡ [])
-AreFields (of_object value) top bottom = AreParts Eight top value.top × AreParts Eight bottom value.bottom
-AreFields (of_display value) top bottom = (top ≡ []) × (bottom ≡ [])
-AreFields end_of_set top bottom = (top ≡ []) × (bottom ≡ [])
-AreFields passed_over top bottom = (top ≡ []) × (bottom ≡ [])
+abbrev pub AreObjectFields : SegmentValue → List Part → List Part → Type 0
+AreObjectFields (of_page value) top bottom = (top ≡ []) × (bottom ≡ [])
+AreObjectFields (of_region value) top bottom = (top ≡ []) × (bottom ≡ [])
+AreObjectFields (of_clut value) top bottom = (top ≡ []) × (bottom ≡ [])
+AreObjectFields (of_object value) top bottom = AreParts Eight top value.top × AreParts Eight bottom value.bottom
+AreObjectFields (of_display value) top bottom = (top ≡ []) × (bottom ≡ [])
+AreObjectFields end_of_set top bottom = (top ≡ []) × (bottom ≡ [])
+AreObjectFields passed_over top bottom = (top ≡ []) × (bottom ≡ [])
 
 -- the bytes are a segment with this content
 pub record IsContent (bytes : List ℕ) (content : Content) : Type 0 where
   pub segment : IsSegment bytes content.value
-  pub fields : AreFields content.value content.top content.bottom
+  pub fields : AreObjectFields content.value content.top content.bottom
 
 -- the bytes are read so
 abbrev pub IsReading : List ℕ → Reading → Type 0

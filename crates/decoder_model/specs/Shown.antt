@@ -9,7 +9,6 @@ use Rattle.sub_base.specs.declared.profile.Profile.{Profile}
 use Rattle.stream_syntax.specs.Segments.{Page, Region, Display}
 use Rattle.stream_syntax.specs.declared.display.Window.{Window}
 use Rattle.stream_syntax.specs.declared.page.PageEntry.{PageEntry}
-use Rattle.decoder_model.specs.declared.pages.Pages.{Pages}
 use Rattle.decoder_model.specs.Contents.{page_in_set}
 use Rattle.decoder_model.specs.Faults.{contents_in, display_in_force}
 use Rattle.decoder_model.specs.Ink.{ink_of}
@@ -17,7 +16,7 @@ use Rattle.decoder_model.specs.Kept.{lifted_time, epoch_of}
 use Rattle.sub_base.specs.Lists.{last_given}
 use Rattle.decoder_model.specs.Pixels.{pixel_of}
 use Rattle.decoder_model.specs.Readings.{Content, Reading}
-use Rattle.decoder_model.specs.Received.{HasReceived}
+use Rattle.decoder_model.specs.Received.{HasReceived, Reception}
 use Rattle.decoder_model.specs.Sets.{Delivery, whole}
 use Rattle.decoder_model.specs.Taken.{Taken, segments_of, taken_of, taken_region}
 use Rattle.decoder_model.specs.Verdict.{verdict_of, sets_since}
@@ -169,10 +168,10 @@ view_at profile anchor tick (delivery ∷ past) =
 
 -- ---- the view of a stream
 
--- what is shown of packets at a tick, in a receiver of a profile for a PID and these pages, with that anchor: the
--- view after all of their sets and losses. The stream ends with these packets or not
-pub record IsShown (profile : Profile) (pid : ℕ) (pages : Pages) (anchor : ℕ) (ended : Bool)
-    (packets : List (List ℕ)) (tick : ℕ) (shown : View) : Type 0 where
+-- what a receiver shows of packets at a tick: the view after all of their sets and losses. The stream ends with these
+-- packets or not
+pub record IsShown (reception : Reception) (ended : Bool) (packets : List (List ℕ)) (tick : ℕ) (shown : View)
+    : Type 0 where
   pub past : List (Delivery Reading)
-  pub received : HasReceived profile pid pages ended packets past
-  pub is_view : shown ≡ view_at profile anchor tick past
+  pub received : HasReceived reception ended packets past
+  pub is_view : shown ≡ view_at reception.profile reception.anchor tick past

@@ -11,7 +11,7 @@ use Rattle.segments.specs.Framing.{IsFrameOf, IsFirstFrame}
 use Rattle.decoder_model.specs.declared.pages.Pages.{Pages}
 use Rattle.decoder_model.specs.Frames.{counts_for, is_of_pages}
 use Rattle.decoder_model.specs.Received.{IsFramed}
-use Rattle.display_sets.specs.Counted.{counted_in, is_counted, IsNext, IsFront}
+use Rattle.display_sets.specs.Counted.{counted_in, is_counted, IsNextCounted, IsCountedFront}
 use Rattle.display_sets.specs.declared.counted.Front.{Front}
 use Rattle.sub_base.specs.Lists.{has_some}
 
@@ -91,7 +91,7 @@ pub first_segment : (pages : Pages) (field rest : List ℕ) (left others : List 
     (front : Front) → IsLeft pages field rest left → IsFirstFrame left others frame
     → is_counted pages frame.page frame.kind ≡ true
     → front.segment.now ≡ take frame.whole rest → front.rest.now ≡ drop frame.whole rest
-    → IsFront pages field front
+    → IsCountedFront pages field front
 first_segment pages field rest left others frame front walked first same is_segment is_rest =
     let within = walked.within in
     let shorter = length-drop frame.whole rest in
@@ -114,7 +114,7 @@ first_segment pages field rest left others frame front walked first same is_segm
 
 -- whether something counts
 pub some_counts : (pages : Pages) (field : List ℕ) (next : Option (Result Front SegmentFault))
-    → IsNext pages field next → is_some next ≡ has_some (counted_in pages field)
+    → IsNextCounted pages field next → is_some next ≡ has_some (counted_in pages field)
 some_counts pages field None is = sym (ap has_some is)
 some_counts pages field (Some (Err fault)) is = sym (ap has_some is)
 some_counts pages field (Some (Ok front)) is = sym (ap has_some is.listed)

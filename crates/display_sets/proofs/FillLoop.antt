@@ -10,7 +10,7 @@ use Rattle.std.specs.Prelude.{find}
 use Rattle.sub_base.specs.Lists.{prefixes, has_some}
 use Rattle.decoder_model.proofs.Growth.{ended_more}
 use Rattle.display_sets.specs.Counted.{counted_in}
-use Rattle.display_sets.specs.Filling.{AreOpen, IsEnd, Adds, EndsWithin, Fills, Grows}
+use Rattle.display_sets.specs.Filling.{AreOpen, EndsSet, Adds, EndsWithin, Fills, GrowsOpen}
 use Rattle.display_sets.specs.Private.Hands.{is_still_open}
 use Rattle.display_sets.specs.declared.filling.Filled.{Filled}
 use Rattle.display_sets.specs.declared.filling.Filled.TheVariants.{Open, Ended}
@@ -47,7 +47,7 @@ fill_begins pages coded field start = record {
 -- the set ends with the next frame
 ends_at : (pages : Pages) (coded : ℕ) (field rest bytes content : List ℕ) (front : List Frame) (frame : Frame)
     (behind : List Frame) (fault : Option SetFault) (h : ArePassed pages coded field rest front bytes)
-    → counted_in pages rest ≡ frame ∷ behind → IsEnd coded ((front ++ h.passed) ++ frame ∷ []) content fault
+    → counted_in pages rest ≡ frame ∷ behind → EndsSet coded ((front ++ h.passed) ++ frame ∷ []) content fault
     → EndsWithin coded (front ++ counted_in pages field) content fault
 ends_at pages coded field rest bytes content front frame behind fault h next is_end = record {
   first = (front ++ h.passed) ++ frame ∷ [];
@@ -83,7 +83,7 @@ fill_ended pages coded field rest start bytes part behind new (Ended fault) h ne
     ends_at pages coded field rest bytes new front (segment part) (counted_in pages behind) fault there next
     (adds (front ++ there.passed) there.still)
 
-pub grows_ended : (old new : List ℕ) (filled : Filled) → is_still_open filled ≡ false → Grows old new filled
+pub grows_ended : (old new : List ℕ) (filled : Filled) → is_still_open filled ≡ false → GrowsOpen old new filled
 grows_ended old new Open is = absurd (cc)
 grows_ended old new (Ended fault) is = tt
 
@@ -93,7 +93,7 @@ pub fill_more : (pages : Pages) (coded : ℕ) (field rest start bytes part behin
     → counted_in pages rest ≡ segment part ∷ counted_in pages behind
     → is_still_open filled ≡ true
     → ((front : List Frame) → AreOpen coded front bytes → Adds coded front (segment part) new filled)
-    → Grows bytes new filled → IsFilling pages coded field behind start new
+    → GrowsOpen bytes new filled → IsFilling pages coded field behind start new
 fill_more pages coded field rest start bytes part behind new Open h next is adds grows =
     let longer = h.longer in
     record {

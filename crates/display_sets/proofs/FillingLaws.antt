@@ -15,7 +15,7 @@ use Rattle.decoder_model.specs.Sets.{is_ended, first_fault_in, excess_in}
 use Rattle.decoder_model.specs.declared.set_fault.SetFault.TheVariants.{Segment, SetTooLong}
 use Rattle.decoder_model.proofs.Growth.{segments-append}
 use Rattle.decoder_model.proofs.Lists.{all-append}
-use Rattle.display_sets.specs.Filling.{AreBytes, AreOpen, IsEnd}
+use Rattle.display_sets.specs.Filling.{AreBytes, AreOpen, EndsSet}
 
 -- ---- sets that have not ended
 
@@ -83,7 +83,7 @@ any_last test xs last e = list_any-append test xs (last ∷ []) ∙ ap (λ b. b 
 
 -- a fault ends the set
 pub ends_broken : (coded : ℕ) (frames : List Frame) (fault : SegmentFault) (bytes content : List ℕ)
-    → AreOpen coded frames bytes → IsEnd coded (frames ++ broken fault ∷ []) content (Some (Segment fault))
+    → AreOpen coded frames bytes → EndsSet coded (frames ++ broken fault ∷ []) content (Some (Segment fault))
 ends_broken coded frames fault bytes content so_far =
     let calm = quiet coded frames so_far.no_end in
     record {
@@ -125,7 +125,7 @@ module _ (coded : ℕ) (frames : List Frame) (bytes part : List ℕ) (so_far : A
 
   -- a segment with which the set has too many bytes
   pub ends_too_long : (content : List ℕ) (size : ℕ) → size ≡ length bytes + length part → coded < size
-      → IsEnd coded (frames ++ segment part ∷ []) content (Some (SetTooLong size))
+      → EndsSet coded (frames ++ segment part ∷ []) content (Some (SetTooLong size))
   ends_too_long content size is more =
       let all : bytes_in (frames ++ segment part ∷ []) ≡ size = size_is ∙ sym is in
       let over : ltb coded (bytes_in (frames ++ segment part ∷ [])) ≡ true = grind (arith, nat_tests) in
@@ -145,7 +145,7 @@ module _ (coded : ℕ) (frames : List Frame) (bytes part : List ℕ) (so_far : A
 
   -- the end segment
   pub ends_whole : (byte : ℕ) → byte ≡ byte_at 1 part → byte ≡ 0x80 → length bytes + length part ≤ coded
-      → IsFramed part → IsEnd coded (frames ++ segment part ∷ []) (bytes ++ part) None
+      → IsFramed part → EndsSet coded (frames ++ segment part ∷ []) (bytes ++ part) None
   ends_whole byte is end small framed =
       let calm = quiet coded frames so_far.no_end in
       let last : list_any is_end (segment part ∷ []) ≡ true = rw (← is, end) refl in

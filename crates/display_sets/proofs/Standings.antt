@@ -12,7 +12,7 @@ use Rattle.decoder_model.specs.Sets.{Delivery, lost, runs_of, sets_in}
 use Rattle.decoder_model.proofs.OnePacket.{IsLossArrival}
 use Rattle.display_sets.specs.Gathered.{Gathered, ReadySet, ready_set, ready_in, ready_sets, first_ready, sets_behind}
 use Rattle.display_sets.specs.Private.Hands.{ready_head, given_hand, closed_hand}
-use Rattle.display_sets.specs.Standing.{IsInHand, AreReady, Stands, IsFirst}
+use Rattle.display_sets.specs.Standing.{IsInHand, AreReady, HasGathered, IsFirst}
 use Rattle.display_sets.specs.declared.hand.Hand.{Hand}
 use Rattle.display_sets.specs.declared.hand.Hand.TheVariants as hand
 use Rattle.display_sets.specs.declared.hand.Head.{Head}
@@ -46,7 +46,7 @@ no_set : (sets : List ReadySet) → sets ≡ [] → AreReady [] sets
 no_set sets e = subst (AreReady []) (sym e) tt
 
 -- where nothing is ready, all sets and losses were given
-pub all_given : (arrivals : List Arrival) (given : Deliveries) (old : Gathered) → Stands arrivals false given old
+pub all_given : (arrivals : List Arrival) (given : Deliveries) (old : Gathered) → HasGathered arrivals false given old
     → ready_sets old ≡ [] → sets_in old.coded false (runs_of arrivals) ≡ given
 all_given arrivals given old h none =
     h.sets ∙ ap (λ waiting. given ++ waiting) (none_ready h.waiting (ready_sets old) h.are_ready none)
@@ -73,10 +73,10 @@ given_up old = record old { hand = hand.Empty }
 
 pub lost_stands : (old new : Gathered) (last : Arrival) → IsLossArrival last → new ≡ given_up old
     → ready_sets old ≡ []
-    → (arrivals : List Arrival) (given : Deliveries) → Stands arrivals false given old
-    → Stands (arrivals ++ last ∷ []) false (given ++ lost ∷ []) new
+    → (arrivals : List Arrival) (given : Deliveries) → HasGathered arrivals false given old
+    → HasGathered (arrivals ++ last ∷ []) false (given ++ lost ∷ []) new
 lost_stands old new last is_loss is none arrivals given h =
-    subst (Stands (arrivals ++ last ∷ []) false (given ++ lost ∷ [])) (sym is) (record {
+    subst (HasGathered (arrivals ++ last ∷ []) false (given ++ lost ∷ [])) (sym is) (record {
       in_hand = lost_run arrivals last is_loss;
       waiting = [];
       sets =
@@ -88,8 +88,9 @@ lost_stands old new last is_loss is none arrivals given h =
 
 -- ---- a unit that is passed over
 
-pub aside_stands : (old : Gathered) (arrivals : List Arrival) (given : Deliveries) → Stands arrivals false given old
-    → Stands (arrivals ++ aside ∷ []) false given old
+pub aside_stands : (old : Gathered) (arrivals : List Arrival) (given : Deliveries)
+    → HasGathered arrivals false given old
+    → HasGathered (arrivals ++ aside ∷ []) false given old
 aside_stands old arrivals given h = record {
   in_hand =
       subst (λ units. IsInHand old.coded units old.hand old.bytes) (sym (ap last_run (latest_first arrivals aside)))
@@ -122,9 +123,9 @@ back_none [] ys e = e
 back_none (x ∷ xs) ys e = absurd (cc)
 
 pub finish_stands : (old new : Gathered) → new ≡ ended_up old → ready_sets old ≡ []
-    → (arrivals : List Arrival) (given : Deliveries) → Stands arrivals false given old
-    → Stands arrivals true given new
-finish_stands old new is none arrivals given h = subst (Stands arrivals true given) (sym is) (record {
+    → (arrivals : List Arrival) (given : Deliveries) → HasGathered arrivals false given old
+    → HasGathered arrivals true given new
+finish_stands old new is none arrivals given h = subst (HasGathered arrivals true given) (sym is) (record {
   in_hand = tt;
   waiting = open_set old.coded (last_run (reverse arrivals));
   sets =
@@ -147,7 +148,7 @@ first_of_waiting all given (delivery ∷ waiting) [] e h = absurd h
 first_of_waiting all given (delivery ∷ waiting) (set ∷ sets) e h = (delivery, waiting, e, h.0)
 
 pub first_is : (now : Gathered) (first : Option ReadySet) → first ≡ first_ready (ready_sets now)
-    → (arrivals : List Arrival) (ended : Bool) (given : Deliveries) → Stands arrivals ended given now
+    → (arrivals : List Arrival) (ended : Bool) (given : Deliveries) → HasGathered arrivals ended given now
     → IsFirst (sets_in now.coded ended (runs_of arrivals)) given first
 first_is now first is arrivals ended given h =
     subst (IsFirst (sets_in now.coded ended (runs_of arrivals)) given) (sym is)
@@ -172,9 +173,9 @@ pub give_stands : (old new : Gathered) → new.coded ≡ old.coded → ready_set
     → ((units : List PesUnit) → IsInHand old.coded units old.hand old.bytes
     → IsInHand old.coded units new.hand new.bytes)
     → (arrivals : List Arrival) (ended : Bool) (given rest : Deliveries) (delivery : Delivery (List ℕ))
-    → Stands arrivals ended given old
+    → HasGathered arrivals ended given old
     → sets_in old.coded ended (runs_of arrivals) ≡ given ++ delivery ∷ rest
-    → Stands arrivals ended (given ++ delivery ∷ []) new
+    → HasGathered arrivals ended (given ++ delivery ∷ []) new
 give_stands old new coded are kept arrivals ended given rest delivery h split = record {
   in_hand = by ended h.in_hand;
   waiting = rest;
@@ -228,11 +229,11 @@ without_parted old there = by old.parted there
 pub give_parted : (inside now : Gathered) (there : Bool) → inside ≡ now → there ≡ is_some inside.parted
     → there ≡ true
     → (arrivals : List Arrival) (ended : Bool) (given rest : Deliveries) (delivery : Delivery (List ℕ))
-    → Stands arrivals ended given now
+    → HasGathered arrivals ended given now
     → sets_in now.coded ended (runs_of arrivals) ≡ given ++ delivery ∷ rest
-    → Stands arrivals ended (given ++ delivery ∷ []) (record inside { parted = None })
+    → HasGathered arrivals ended (given ++ delivery ∷ []) (record inside { parted = None })
 give_parted inside now there same is holds arrivals ended given rest delivery h split =
-    subst (λ (old : Gathered). Stands arrivals ended (given ++ delivery ∷ []) (record old { parted = None }))
+    subst (λ (old : Gathered). HasGathered arrivals ended (given ++ delivery ∷ []) (record old { parted = None }))
     (sym same)
     (give_stands now (record now { parted = None }) refl
     (without_parted now (ap (λ (old : Gathered). is_some old.parted) (sym same) ∙ sym is ∙ holds))
@@ -253,13 +254,13 @@ without_hand old there = by old.parted there
 pub give_hand : (inside now : Gathered) (there : Bool) (own : Hand) → inside ≡ now
     → there ≡ is_some inside.parted → there ≡ false → own ≡ given_hand inside.hand
     → (arrivals : List Arrival) (ended : Bool) (given rest : Deliveries) (delivery : Delivery (List ℕ))
-    → Stands arrivals ended given now
+    → HasGathered arrivals ended given now
     → sets_in now.coded ended (runs_of arrivals) ≡ given ++ delivery ∷ rest
-    → Stands arrivals ended (given ++ delivery ∷ []) (record inside { hand = own })
+    → HasGathered arrivals ended (given ++ delivery ∷ []) (record inside { hand = own })
 give_hand inside now there own same is fails given_is arrivals ended given rest delivery h split =
-    subst (λ (own : Hand). Stands arrivals ended (given ++ delivery ∷ []) (record inside { hand = own }))
+    subst (λ (own : Hand). HasGathered arrivals ended (given ++ delivery ∷ []) (record inside { hand = own }))
     (sym given_is)
-    (subst (λ (old : Gathered). Stands arrivals ended (given ++ delivery ∷ [])
+    (subst (λ (old : Gathered). HasGathered arrivals ended (given ++ delivery ∷ [])
     (record old { hand = given_hand old.hand })) (sym same)
     (give_stands now (record now { hand = given_hand now.hand }) refl
     (without_hand now (ap (λ (old : Gathered). is_some old.parted) (sym same) ∙ sym is ∙ fails))
@@ -296,7 +297,7 @@ first_hand inside now found same is found_is =
 
 pub ready_parted : (inside now : Gathered) (head : Head) (bytes : List ℕ) (set : ReadySet) → inside ≡ now
     → inside.parted ≡ Some head → set ≡ ready_set bytes head → bytes ≡ inside.parted_bytes
-    → (arrivals : List Arrival) (ended : Bool) (given : Deliveries) → Stands arrivals ended given now
+    → (arrivals : List Arrival) (ended : Bool) (given : Deliveries) → HasGathered arrivals ended given now
     → IsFirst (sets_in now.coded ended (runs_of arrivals)) given (Some set)
 ready_parted inside now head bytes set same is lent bytes_are =
     first_is now (Some set)
@@ -306,7 +307,7 @@ ready_parted inside now head bytes set same is lent bytes_are =
 pub ready_hand : (inside now : Gathered) (head : Head) (bytes : List ℕ) (set : ReadySet) → inside ≡ now
     → inside.parted ≡ None → Some head ≡ ready_head inside.hand → set ≡ ready_set bytes head
     → bytes ≡ inside.bytes
-    → (arrivals : List Arrival) (ended : Bool) (given : Deliveries) → Stands arrivals ended given now
+    → (arrivals : List Arrival) (ended : Bool) (given : Deliveries) → HasGathered arrivals ended given now
     → IsFirst (sets_in now.coded ended (runs_of arrivals)) given (Some set)
 ready_hand inside now head bytes set same is found lent bytes_are =
     first_is now (Some set)
@@ -315,7 +316,7 @@ ready_hand inside now head bytes set same is found lent bytes_are =
 
 pub ready_none : (inside now : Gathered) → inside ≡ now → inside.parted ≡ None
     → None ≡ ready_head inside.hand
-    → (arrivals : List Arrival) (ended : Bool) (given : Deliveries) → Stands arrivals ended given now
+    → (arrivals : List Arrival) (ended : Bool) (given : Deliveries) → HasGathered arrivals ended given now
     → IsFirst (sets_in now.coded ended (runs_of arrivals)) given None
 ready_none inside now same is found = first_is now None (first_hand inside now None same is found)
 

@@ -11,7 +11,7 @@ use Rattle.display_sets.specs.Counted.{counted_in}
 use Rattle.display_sets.specs.Filling.{AreOpen, Fills}
 use Rattle.display_sets.specs.Gathered.{Gathered, ready_in, ready_sets, TakesUp}
 use Rattle.display_sets.specs.Private.Hands.{hand_with, ready_head, meeting_of}
-use Rattle.display_sets.specs.Standing.{AreOfTime, IsEndedRun, IsInHand, AreReady, Stands, IsUnitEnd}
+use Rattle.display_sets.specs.Standing.{AreOfTime, IsEndedRun, IsInHand, AreReady, HasGathered, IsUnitEnd}
 use Rattle.display_sets.specs.declared.hand.Hand.{Hand}
 use Rattle.display_sets.specs.declared.hand.Hand.TheVariants as hand
 use Rattle.display_sets.specs.declared.hand.Head.{Head}
@@ -33,7 +33,7 @@ Deliveries = List (Delivery (List ℕ))
 -- what is promised of a unit
 pub record IsRight (old new : Gathered) (arrivals : List Arrival) (given : Deliveries) (arrival : Arrival)
     (answer : UnitEnd) : Type 0 where
-  pub stands : Stands (arrivals ++ arrival ∷ []) false given new
+  pub stands : HasGathered (arrivals ++ arrival ∷ []) false given new
   pub right_end : IsUnitEnd old.coded (last_run (reverse arrivals)) arrival answer
 
 -- ---- a unit that counts
@@ -62,10 +62,10 @@ pub record IsMet (coded : ℕ) (units joined : List PesUnit) (one : PesUnit) (mi
   pub parted : AreReady (parted_by coded units one) (ready_in mid.parted mid.parted_bytes)
 
 taken : (old mid new : Gathered) (arrivals : List Arrival) (given : Deliveries) (one : PesUnit) (joined : List PesUnit)
-    (total : ℕ) (field : List ℕ) → Stands arrivals false given old → ready_sets old ≡ []
+    (total : ℕ) (field : List ℕ) → HasGathered arrivals false given old → ready_sets old ≡ []
     → IsMet old.coded (last_run (reverse arrivals)) joined one mid total
     → one.frames ≡ counted_in mid.pages field → TakesUp mid new one.time total field
-    → Stands (arrivals ++ unit one ∷ []) false given new
+    → HasGathered (arrivals ++ unit one ∷ []) false given new
 taken old mid new arrivals given one joined total field h none met frames takes =
     let coded = old.coded in
     let units = last_run (reverse arrivals) in
@@ -125,7 +125,7 @@ pub begins_right : (old new : Gathered) (time size place : ℕ) (field : List �
     → ready_sets old ≡ [] → has_some (counted_in old.pages field) ≡ true
     → met ≡ meeting_of time old.hand → met ≡ meeting.Begins
     → TakesUp (started old) new time size field → (arrivals : List Arrival) (given : Deliveries)
-    → Stands arrivals false given old
+    → HasGathered arrivals false given old
     → IsRight old new arrivals given (unit_with place size time (counted_in old.pages field)) end.Taken
 begins_right old new time size place field met none some meets is takes arrivals given h =
     let one = unit_of place size time (counted_in old.pages field) in
@@ -160,7 +160,7 @@ pub joins_right : (old new : Gathered) (time size place before : ℕ) (field : L
     → ready_sets old ≡ [] → has_some (counted_in old.pages field) ≡ true
     → met ≡ meeting_of time old.hand → met ≡ meeting.Joins before
     → TakesUp old new time (before + size) field → (arrivals : List Arrival) (given : Deliveries)
-    → Stands arrivals false given old
+    → HasGathered arrivals false given old
     → IsRight old new arrivals given (unit_with place size time (counted_in old.pages field)) end.Taken
 joins_right old new time size place before field met none some meets is takes arrivals given h =
     let one = unit_of place size time (counted_in old.pages field) in
@@ -200,7 +200,7 @@ put_aside old head =
 pub parts_right : (old new : Gathered) (time size place : ℕ) (head : Head) (field : List ℕ) (met : Meeting)
     → ready_sets old ≡ [] → has_some (counted_in old.pages field) ≡ true → met ≡ meeting_of time old.hand
     → met ≡ meeting.Parts head → TakesUp (started (put_aside old head)) new time size field
-    → (arrivals : List Arrival) (given : Deliveries) → Stands arrivals false given old
+    → (arrivals : List Arrival) (given : Deliveries) → HasGathered arrivals false given old
     → IsRight old new arrivals given (unit_with place size time (counted_in old.pages field)) end.Parted
 parts_right old new time size place head field met none some meets is takes arrivals given h =
     let one = unit_of place size time (counted_in old.pages field) in
@@ -264,9 +264,9 @@ behind_hand coded units time (hand.Given own) bytes meets h ended =
 
 -- behind the end of its set
 dropped : (old : Gathered) (arrivals : List Arrival) (given : Deliveries) (one : PesUnit)
-    → Stands arrivals false given old → ready_sets old ≡ []
+    → HasGathered arrivals false given old → ready_sets old ≡ []
     → IsEndedRun old.coded (last_run (reverse arrivals)) one.time
-    → meeting_of one.time old.hand ≡ meeting.Behind → Stands (arrivals ++ unit one ∷ []) false given old
+    → meeting_of one.time old.hand ≡ meeting.Behind → HasGathered (arrivals ++ unit one ∷ []) false given old
 dropped old arrivals given one h none run meets =
     let coded = old.coded in
     let units = last_run (reverse arrivals) in
@@ -299,7 +299,7 @@ dropped old arrivals given one h none run meets =
 pub behind_right : (old : Gathered) (time size place : ℕ) (field : List ℕ) (met : Meeting)
     → ready_sets old ≡ [] → has_some (counted_in old.pages field) ≡ true
     → met ≡ meeting_of time old.hand → met ≡ meeting.Behind
-    → (arrivals : List Arrival) (given : Deliveries) → Stands arrivals false given old
+    → (arrivals : List Arrival) (given : Deliveries) → HasGathered arrivals false given old
     → IsRight old old arrivals given (unit_with place size time (counted_in old.pages field)) end.Dropped
 behind_right old time size place field met none some meets is arrivals given h =
     let one = unit_of place size time (counted_in old.pages field) in
@@ -326,7 +326,7 @@ no_frames_count (frame ∷ frames) none = absurd (cc)
 -- nothing counts
 pub aside_right : (old : Gathered) (time size place : ℕ) (field : List ℕ)
     → has_some (counted_in old.pages field) ≡ false → (arrivals : List Arrival) (given : Deliveries)
-    → Stands arrivals false given old
+    → HasGathered arrivals false given old
     → IsRight old old arrivals given (unit_with place size time (counted_in old.pages field)) end.Aside
 aside_right old time size place field none arrivals given h =
     subst (λ (frames : List Frame). IsRight old old arrivals given (unit_with place size time frames) end.Aside)

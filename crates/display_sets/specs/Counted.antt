@@ -22,13 +22,13 @@ is_counted pages id kind =
     || (id == pages.ancillary) && list_any (λ other. kind == other) shared_kinds
 
 -- the first segment that counts, and what is left behind it
-pub record IsFront (pages : Pages) (field : List ℕ) (front : Front) : Type 0 where
+pub record IsCountedFront (pages : Pages) (field : List ℕ) (front : Front) : Type 0 where
   pub listed : counted_in pages field ≡ segment front.segment.now ∷ counted_in pages front.rest.now
   pub framed : IsFramed front.segment.now
   pub shorter : length front.rest.now < length field
 
 -- the first thing that counts: nothing, a fault, or a segment
-abbrev pub IsNext : Pages → List ℕ → Option (Result Front SegmentFault) → Type 0
-IsNext pages field None = counted_in pages field ≡ []
-IsNext pages field (Some (Err fault)) = counted_in pages field ≡ broken fault ∷ []
-IsNext pages field (Some (Ok front)) = IsFront pages field front
+abbrev pub IsNextCounted : Pages → List ℕ → Option (Result Front SegmentFault) → Type 0
+IsNextCounted pages field None = counted_in pages field ≡ []
+IsNextCounted pages field (Some (Err fault)) = counted_in pages field ≡ broken fault ∷ []
+IsNextCounted pages field (Some (Ok front)) = IsCountedFront pages field front

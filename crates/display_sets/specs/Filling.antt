@@ -22,7 +22,7 @@ pub record AreOpen (coded : ℕ) (frames : List Frame) (bytes : List ℕ) : Type
   pub bytes_are : AreBytes (segments_in frames) bytes
 
 -- a set ends with the last of these frames: it is refused with that fault, or its segments have these bytes
-pub record IsEnd (coded : ℕ) (frames : List Frame) (bytes : List ℕ) (fault : Option SetFault) : Type 0 where
+pub record EndsSet (coded : ℕ) (frames : List Frame) (bytes : List ℕ) (fault : Option SetFault) : Type 0 where
   pub ended : is_ended coded frames ≡ true
   pub fault_is : fault ≡ option_or (first_fault_in frames) (excess_in coded frames)
   pub bytes_are : IfNone fault (AreBytes (segments_in frames) bytes)
@@ -30,13 +30,13 @@ pub record IsEnd (coded : ℕ) (frames : List Frame) (bytes : List ℕ) (fault :
 -- one frame behind those of an open set leaves it open or ends it
 abbrev pub Adds : ℕ → List Frame → Frame → List ℕ → Filled → Type 0
 Adds coded front frame bytes Open = AreOpen coded (front ++ frame ∷ []) bytes
-Adds coded front frame bytes (Ended fault) = IsEnd coded (front ++ frame ∷ []) bytes fault
+Adds coded front frame bytes (Ended fault) = EndsSet coded (front ++ frame ∷ []) bytes fault
 
 -- the first frames with which a set has ended
 pub record EndsWithin (coded : ℕ) (frames : List Frame) (bytes : List ℕ) (fault : Option SetFault) : Type 0 where
   pub first : List Frame
   pub found : find (is_ended coded) (prefixes frames) ≡ Some first
-  pub is_end : IsEnd coded first bytes fault
+  pub is_end : EndsSet coded first bytes fault
 
 -- further frames behind those of an open set leave it open, or it ends with one of them
 abbrev pub Fills : ℕ → List Frame → List Frame → List ℕ → Filled → Type 0
@@ -44,6 +44,6 @@ Fills coded front more bytes Open = AreOpen coded (front ++ more) bytes
 Fills coded front more bytes (Ended fault) = EndsWithin coded (front ++ more) bytes fault
 
 -- a set that stays open has more bytes than before
-abbrev pub Grows : List ℕ → List ℕ → Filled → Type 0
-Grows old new Open = length old < length new
-Grows old new (Ended fault) = Unit {0}
+abbrev pub GrowsOpen : List ℕ → List ℕ → Filled → Type 0
+GrowsOpen old new Open = length old < length new
+GrowsOpen old new (Ended fault) = Unit {0}

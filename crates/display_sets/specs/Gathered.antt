@@ -59,18 +59,18 @@ sets_behind [] = []
 sets_behind (one ∷ sets) = sets
 
 -- a set has less than 2^32 bytes of units for each byte of the memory, and for the unit with which it ends
-abbrev pub IsSmall : ℕ → ℕ → Type 0
-IsSmall coded size = size < (coded + 1) * 4294967296
+abbrev pub HasFewBytes : ℕ → ℕ → Type 0
+HasFewBytes coded size = size < (coded + 1) * 4294967296
 
 -- the bytes fit the memory; each byte of an open set stands for less than 2^32 bytes of units, so that their size fits
 -- 64 bits
-pub record IsSound (gathered : Gathered) : Type 0 where
+pub record IsSoundGathering (gathered : Gathered) : Type 0 where
   pub few : gathered.coded < 2 ^ 32
   pub within : length gathered.bytes ≤ gathered.coded
   pub parted_within : length gathered.parted_bytes ≤ gathered.coded
   pub small : open_size gathered.hand ≤ length gathered.bytes * 4294967296
-  pub ready_small : IsSmall gathered.coded (ready_size gathered.hand)
-  pub parted_small : ForSome gathered.parted (λ head. IsSmall gathered.coded head.size)
+  pub ready_small : HasFewBytes gathered.coded (ready_size gathered.hand)
+  pub parted_small : ForSome gathered.parted (λ head. HasFewBytes gathered.coded head.size)
   -- times have 33 bits
   pub timely : hand_time gathered.hand < 2 ^ 33
   pub parted_timely : ForSome gathered.parted (λ head. head.time < 2 ^ 33)

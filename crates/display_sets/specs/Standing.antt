@@ -58,7 +58,7 @@ AreReady (delivery ∷ deliveries) (set ∷ sets) = IsReady delivery set × AreR
 
 -- the gathering stands for these arrivals, of which the stream ends with the last or not, where these sets and losses
 -- were given already: the run in hand is the last one, and what was not given is ready
-pub record Stands (arrivals : List Arrival) (ended : Bool) (given : List (Delivery (List ℕ)))
+pub record HasGathered (arrivals : List Arrival) (ended : Bool) (given : List (Delivery (List ℕ)))
     (gathered : Gathered) : Type 0 where
   pub in_hand : OnFalse ended (IsInHand gathered.coded (last_run (reverse arrivals)) gathered.hand gathered.bytes)
   pub waiting : List (Delivery (List ℕ))

@@ -5,7 +5,7 @@ ghost use Rattle.std.specs.List.{list_any};
 ghost use Rattle.stream_syntax.specs.Segments.{set_kinds};
 ghost use Rattle.sub_base.specs.Lists.{has_some};
 ghost use Rattle.decoder_model.specs.Frames.{shared_kinds};
-ghost use Rattle.display_sets.specs.Counted.{IsNext, counted_in, is_counted as counts_with};
+ghost use Rattle.display_sets.specs.Counted.{IsNextCounted, counted_in, is_counted as counts_with};
 
 use decoder_model::Pages;
 use segments::frames;
@@ -24,7 +24,7 @@ pub(crate) struct Front<'a> {
 /// The first segment of these pages in a data field, or the fault at which the field breaks off
 /// before one.
 pub(crate) fn next_counted(pages: Pages, field: &[u8]) -> Option<Result<Front<'_>, SegmentFault>>
-    ensures { IsNext pages field.now result }
+    ensures { IsNextCounted pages field.now result }
 {
     let mut rest = field;
     for head in frames(field) {

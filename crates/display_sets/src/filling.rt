@@ -4,7 +4,7 @@ ghost use Rattle.std.specs.Prelude.{◌≡◌, ◌+◌, ◌≤◌, true, List, �
 ghost use Rattle.stream_syntax.specs.DataField.{Frame, segment as whole_segment};
 ghost use Rattle.decoder_model.specs.Received.{IsFramed};
 ghost use Rattle.display_sets.specs.Counted.{counted_in};
-ghost use Rattle.display_sets.specs.Filling.{Adds, AreOpen, Fills, Grows};
+ghost use Rattle.display_sets.specs.Filling.{Adds, AreOpen, Fills, GrowsOpen};
 ghost use Rattle.sub_base.specs.Lists.{has_some};
 
 use crate::counted::next_counted;
@@ -28,7 +28,7 @@ pub(crate) fn fill(pages: Pages, coded: u32, bytes: &mut Vec<u8>, field: &[u8]) 
     requires counted { has_some (counted_in pages field.now) ≡ true }
     ensures room { coded ≤ vec_capacity bytes.new }
     ensures within { length bytes.new.items ≤ coded }
-    ensures grows { Grows bytes.old.items bytes.new.items result }
+    ensures grows { GrowsOpen bytes.old.items bytes.new.items result }
     ensures fills { (front : List Frame) → AreOpen coded front bytes.old.items
         → Fills coded front (counted_in pages field.now) bytes.new.items result }
 {
@@ -54,7 +54,7 @@ fn add(coded: u32, bytes: &mut Vec<u8>, segment: &[u8]) -> Filled
     requires framed { IsFramed segment.now }
     ensures room { coded ≤ vec_capacity bytes.new }
     ensures within { length bytes.new.items ≤ coded }
-    ensures grows { Grows bytes.old.items bytes.new.items result }
+    ensures grows { GrowsOpen bytes.old.items bytes.new.items result }
     ensures adds { (front : List Frame) → AreOpen coded front bytes.old.items
         → Adds coded front (whole_segment segment.now) bytes.new.items result }
 {

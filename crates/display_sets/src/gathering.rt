@@ -28,7 +28,7 @@ pub struct Gathering {
 impl Model for Gathering {
     ghost use Rattle.std.specs.Prelude.{◌≤◌};
     ghost use Rattle.std.specs.Vec.{vec_capacity};
-    ghost use Rattle.display_sets.specs.Gathered.{Gathered, IsSound};
+    ghost use Rattle.display_sets.specs.Gathered.{Gathered, IsSoundGathering};
 
     ghost Value = { Gathered };
 
@@ -41,7 +41,7 @@ impl Model for Gathering {
       parted_bytes = g.parted_bytes.items;
     } };
 
-    ghost invariant = { λ g. IsSound
+    ghost invariant = { λ g. IsSoundGathering
         (record {
           pages = g.pages;
           coded = g.coded;
@@ -60,9 +60,9 @@ impl Gathering {
     ghost use Rattle.decoder_model.specs.PacketArrivals.{last_run};
     ghost use Rattle.decoder_model.specs.Sets.{Delivery, lost, runs_of, sets_in};
     ghost use Rattle.display_sets.specs.Counted.{counted_in};
-    ghost use Rattle.display_sets.specs.Gathered.{IsSmall, TakesUp, first_ready, ready_sets, sets_behind};
+    ghost use Rattle.display_sets.specs.Gathered.{HasFewBytes, TakesUp, first_ready, ready_sets, sets_behind};
     ghost use Rattle.display_sets.specs.Lent.{lent};
-    ghost use Rattle.display_sets.specs.Standing.{IsFirst, IsUnitEnd, Stands};
+    ghost use Rattle.display_sets.specs.Standing.{IsFirst, IsUnitEnd, HasGathered};
     ghost use Rattle.display_sets.specs.declared.hand.Hand.TheVariants as hand_is;
 
     /// A gathering for these pages to which nothing came. A set whose segments have more than
@@ -70,7 +70,7 @@ impl Gathering {
     pub fn make(alloc: Global, pages: Pages, coded: u32) -> Result<Gathering, NoMemory>
         ensures pages { IfOk result (λ gathering. gathering.pages ≡ pages) }
         ensures coded { IfOk result (λ gathering. gathering.coded ≡ coded) }
-        ensures stands { IfOk result (Stands [] false []) }
+        ensures stands { IfOk result (HasGathered [] false []) }
     {
         Ok(Gathering {
             pages,
@@ -91,11 +91,11 @@ impl Gathering {
 
         // The loss counts as given.
         ensures loss { (arrivals : List Arrival) (given : List (Delivery (List ℕ)))
-            → Stands arrivals false given self.old
-            → Stands (arrivals ++ loss ∷ []) false (given ++ lost ∷ []) self.new }
+            → HasGathered arrivals false given self.old
+            → HasGathered (arrivals ++ loss ∷ []) false (given ++ lost ∷ []) self.new }
         ensures refused { (arrivals : List Arrival) (given : List (Delivery (List ℕ)))
-            → Stands arrivals false given self.old
-            → Stands (arrivals ++ refused_unit ∷ []) false (given ++ lost ∷ []) self.new }
+            → HasGathered arrivals false given self.old
+            → HasGathered (arrivals ++ refused_unit ∷ []) false (given ++ lost ∷ []) self.new }
         ensures none { ready_sets self.new ≡ [] }
     {
         self.hand = Hand::Empty;
@@ -112,11 +112,12 @@ impl Gathering {
         // Whichever packet ended the unit.
         ensures stands { (arrivals : List Arrival) (given : List (Delivery (List ℕ)))
             (place : ℕ)
-            → Stands arrivals false given self.old
-            → Stands (arrivals ++ unit_with place size time (counted_in self.old.pages field.now)
+            → HasGathered arrivals false given self.old
+            → HasGathered
+            (arrivals ++ unit_with place size time (counted_in self.old.pages field.now)
             ∷ []) false given self.new }
         ensures end { (arrivals : List Arrival) (given : List (Delivery (List ℕ))) (place : ℕ)
-            → Stands arrivals false given self.old
+            → HasGathered arrivals false given self.old
             → IsUnitEnd self.old.coded (last_run (reverse arrivals))
             (unit_with place size time (counted_in self.old.pages field.now)) result }
     {
@@ -147,8 +148,8 @@ impl Gathering {
         ensures pages { self.new.pages ≡ self.old.pages }
         ensures coded { self.new.coded ≡ self.old.coded }
         ensures stands { (arrivals : List Arrival) (given : List (Delivery (List ℕ)))
-            → Stands arrivals false given self.old
-            → Stands arrivals true given self.new }
+            → HasGathered arrivals false given self.old
+            → HasGathered arrivals true given self.new }
     {
         self.hand = self.hand.closed();
     }
@@ -157,12 +158,12 @@ impl Gathering {
     pub fn ready(&self) -> Option<Ready<'_>>
         ensures first { option_map lent result ≡ first_ready (ready_sets self.now) }
         ensures timely { ForSome result (λ ready. ready.time < 2 ^ 33) }
-        ensures small { ForSome result (λ ready. IsSmall self.now.coded ready.size) }
+        ensures small { ForSome result (λ ready. HasFewBytes self.now.coded ready.size) }
         ensures within { ForSome result
             (λ ready. IfOk ready.segments (λ bytes. length bytes.now < 2 ^ 32)) }
         ensures delivery { (arrivals : List Arrival) (ended : Bool)
             (given : List (Delivery (List ℕ)))
-            → Stands arrivals ended given self.now
+            → HasGathered arrivals ended given self.now
             → IsFirst (sets_in self.now.coded ended (runs_of arrivals)) given
             (option_map lent result) }
     {
@@ -183,9 +184,9 @@ impl Gathering {
         ensures left { ready_sets self.new ≡ sets_behind (ready_sets self.old) }
         ensures stands { (arrivals : List Arrival) (ended : Bool)
             (given rest : List (Delivery (List ℕ))) (delivery : Delivery (List ℕ))
-            → Stands arrivals ended given self.old
+            → HasGathered arrivals ended given self.old
             → sets_in self.old.coded ended (runs_of arrivals) ≡ given ++ delivery ∷ rest
-            → Stands arrivals ended (given ++ delivery ∷ []) self.new }
+            → HasGathered arrivals ended (given ++ delivery ∷ []) self.new }
     {
         if self.parted.is_some() {
             self.parted = None;

@@ -6,7 +6,6 @@ use Rattle.std.specs.Option.{is_none}
 use Rattle.std.proofs.lemmas.List.{map-append}
 use Rattle.std.proofs.lemmas.List.Elements.{All-cons, All-nil}
 use Rattle.std.proofs.lemmas.List.Sums.{take_while-cons}
-use Rattle.sub_base.specs.declared.profile.Profile.{Profile}
 use Rattle.stream_syntax.specs.TransportPackets.{pid_of, has_error_flag, has_payload, has_start_flag, counter_of, payload_of, packet_fault}
 use Rattle.stream_syntax.specs.Units.{is_payload, last_counter, succession, Breaks, payload_part, part_after, part_of, hand_after, unit_after, unit_at, payload_event, event_after, event_at}
 use Rattle.stream_syntax.specs.declared.transport.Event.TheVariants as event
@@ -15,7 +14,7 @@ use Rattle.ts_packets.proofs.UnitLemmas.{hand_push, counter_push}
 use Rattle.decoder_model.specs.declared.pages.Pages.{Pages}
 use Rattle.decoder_model.specs.Arrivals.{losses_at, units_at, arrivals_at, packets_taken, arrivals_of}
 use Rattle.decoder_model.specs.Readings.{Reading, AreDeliveriesRead}
-use Rattle.decoder_model.specs.Received.{HasReceived}
+use Rattle.decoder_model.specs.Received.{HasReceived, Reception}
 use Rattle.decoder_model.specs.Sets.{Delivery, has_ended, sets_of, sets_in, runs_of}
 use Rattle.doubled_packet_laws.specs.OfPid.{of_pid}
 use Rattle.doubled_packet_laws.proofs.Places.{unplaced, same_sets}
@@ -149,18 +148,18 @@ sets_of_pid coded pid pages ended packets all =
     ∙ ap (λ sound. sets_in coded (ended && sound) (runs_of (arrived coded pid pages [] (packets_taken pid packets))))
     (sym (sound_all pid packets all))
 
-pub received_of_pid : (profile : Profile) (pid : ℕ) (pages : Pages) (ended : Bool) (packets : List (List ℕ))
-    (past : List (Delivery Reading)) → AreTaken pid packets
-    → HasReceived profile pid pages ended packets past
-    → HasReceived profile pid pages ended (of_pid pid packets) past
-received_of_pid profile pid pages ended packets past all h =
+pub received_of_pid : (reception : Reception) (ended : Bool) (packets : List (List ℕ))
+    (past : List (Delivery Reading)) → AreTaken reception.pid packets
+    → HasReceived reception ended packets past
+    → HasReceived reception ended (of_pid reception.pid packets) past
+received_of_pid reception ended packets past all h =
     subst (λ (sets : List (Delivery (List ℕ))). AreDeliveriesRead (reverse sets) past)
-    (sym (sets_of_pid profile.coded pid pages ended packets all)) h
+    (sym (sets_of_pid reception.profile.coded reception.pid reception.pages ended packets all)) h
 
-pub received_of_all : (profile : Profile) (pid : ℕ) (pages : Pages) (ended : Bool) (packets : List (List ℕ))
-    (past : List (Delivery Reading)) → AreTaken pid packets
-    → HasReceived profile pid pages ended (of_pid pid packets) past
-    → HasReceived profile pid pages ended packets past
-received_of_all profile pid pages ended packets past all h =
+pub received_of_all : (reception : Reception) (ended : Bool) (packets : List (List ℕ))
+    (past : List (Delivery Reading)) → AreTaken reception.pid packets
+    → HasReceived reception ended (of_pid reception.pid packets) past
+    → HasReceived reception ended packets past
+received_of_all reception ended packets past all h =
     subst (λ (sets : List (Delivery (List ℕ))). AreDeliveriesRead (reverse sets) past)
-    (sets_of_pid profile.coded pid pages ended packets all) h
+    (sets_of_pid reception.profile.coded reception.pid reception.pages ended packets all) h

@@ -5,7 +5,7 @@ ghost use Rattle.std.specs.Prelude.{◌≡◌, ◌++◌, ℕ, Bool, true, List, 
 ghost use Rattle.decoder_model.specs.declared.pages.Pages.{Pages};
 ghost use Rattle.decoder_model.specs.Arrivals.{loss, arrivals_at, arrivals_of, packets_taken};
 ghost use Rattle.decoder_model.specs.Readings.{Reading};
-ghost use Rattle.decoder_model.specs.Received.{HasReceived};
+ghost use Rattle.decoder_model.specs.Received.{HasReceived, Reception};
 ghost use Rattle.decoder_model.specs.Sets.{Delivery, sets_of};
 ghost use Rattle.decoder_model.specs.Shown.{IsShown, View};
 ghost use Rattle.doubled_packet_laws.specs.Doubled.{doubled};
@@ -13,7 +13,6 @@ ghost use Rattle.doubled_packet_laws.specs.OfPid.{of_pid};
 ghost use Rattle.stream_syntax.specs.declared.transport.Event.TheVariants.{Double};
 ghost use Rattle.stream_syntax.specs.TransportPackets.{has_error_flag, packet_fault, pid_of};
 ghost use Rattle.stream_syntax.specs.Units.{event_at, is_payload};
-ghost use Rattle.sub_base.specs.declared.profile.Profile.{Profile};
 
 /// Payload packets of the PID that are sent twice bring the sets and losses that they bring when
 /// sent once, whatever stands in the packets.
@@ -26,26 +25,26 @@ pub fn doubles_change_no_set()
 /// They are received, read, as the same sets and losses. A set's verdict is by these alone, so
 /// each set has the same one.
 pub fn doubles_change_no_verdict()
-    ensures twice { (profile : Profile) (pid : ℕ) (pages : Pages) (ended : Bool)
+    ensures twice { (reception : Reception) (ended : Bool)
         (packets : List (List ℕ)) (past : List (Delivery Reading))
-        → HasReceived profile pid pages ended packets past
-        → HasReceived profile pid pages ended (doubled pid packets) past }
-    ensures once { (profile : Profile) (pid : ℕ) (pages : Pages) (ended : Bool)
+        → HasReceived reception ended packets past
+        → HasReceived reception ended (doubled reception.pid packets) past }
+    ensures once { (reception : Reception) (ended : Bool)
         (packets : List (List ℕ)) (past : List (Delivery Reading))
-        → HasReceived profile pid pages ended (doubled pid packets) past
-        → HasReceived profile pid pages ended packets past }
+        → HasReceived reception ended (doubled reception.pid packets) past
+        → HasReceived reception ended packets past }
 {}
 
 /// At each tick the same is shown of them.
 pub fn doubles_change_no_picture()
-    ensures twice { (profile : Profile) (pid : ℕ) (pages : Pages) (anchor : ℕ) (ended : Bool)
+    ensures twice { (reception : Reception) (ended : Bool)
         (packets : List (List ℕ)) (tick : ℕ) (shown : View)
-        → IsShown profile pid pages anchor ended packets tick shown
-        → IsShown profile pid pages anchor ended (doubled pid packets) tick shown }
-    ensures once { (profile : Profile) (pid : ℕ) (pages : Pages) (anchor : ℕ) (ended : Bool)
+        → IsShown reception ended packets tick shown
+        → IsShown reception ended (doubled reception.pid packets) tick shown }
+    ensures once { (reception : Reception) (ended : Bool)
         (packets : List (List ℕ)) (tick : ℕ) (shown : View)
-        → IsShown profile pid pages anchor ended (doubled pid packets) tick shown
-        → IsShown profile pid pages anchor ended packets tick shown }
+        → IsShown reception ended (doubled reception.pid packets) tick shown
+        → IsShown reception ended packets tick shown }
 {}
 
 /// A packet of the PID with an error flag brings a loss and no unit, whatever else stands in it.
@@ -82,14 +81,14 @@ pub fn other_pids_change_no_set()
 
 /// At each tick the same is shown of them.
 pub fn other_pids_change_no_picture()
-    ensures alone { (profile : Profile) (pid : ℕ) (pages : Pages) (anchor : ℕ) (ended : Bool)
+    ensures alone { (reception : Reception) (ended : Bool)
         (packets : List (List ℕ)) (tick : ℕ) (shown : View)
-        → All (λ packet. packet_fault pid packet ≡ None) packets
-        → IsShown profile pid pages anchor ended packets tick shown
-        → IsShown profile pid pages anchor ended (of_pid pid packets) tick shown }
-    ensures all { (profile : Profile) (pid : ℕ) (pages : Pages) (anchor : ℕ) (ended : Bool)
+        → All (λ packet. packet_fault reception.pid packet ≡ None) packets
+        → IsShown reception ended packets tick shown
+        → IsShown reception ended (of_pid reception.pid packets) tick shown }
+    ensures all { (reception : Reception) (ended : Bool)
         (packets : List (List ℕ)) (tick : ℕ) (shown : View)
-        → All (λ packet. packet_fault pid packet ≡ None) packets
-        → IsShown profile pid pages anchor ended (of_pid pid packets) tick shown
-        → IsShown profile pid pages anchor ended packets tick shown }
+        → All (λ packet. packet_fault reception.pid packet ≡ None) packets
+        → IsShown reception ended (of_pid reception.pid packets) tick shown
+        → IsShown reception ended packets tick shown }
 {}

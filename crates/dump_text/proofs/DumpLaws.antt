@@ -10,18 +10,19 @@ use Rattle.decoder_model.specs.Kept.{last_time, lifted_time}
 use Rattle.decoder_model.specs.Readings.{AreDeliveriesRead, IsDeliveryRead, Reading}
 use Rattle.decoder_model.specs.Sets.{Delivery, has_ended, lost, runs_of, sets_in, sets_of}
 use Rattle.decoder_model.specs.Arrivals.{Arrival}
+use Rattle.decoder_model.specs.Received.{Reception}
 use Rattle.display_sets.proofs.PacketLaws.{none_arrived, sets_of_packets}
 use Rattle.reading_laws.proofs.PacketsRead.{packets_read}
-use Rattle.set_receiver.specs.Receiving.{AreLosses, Reception}
-use Rattle.set_receiver.specs.Taking.{AreBytes}
+use Rattle.set_receiver.specs.Receiving.{AreLosses}
+use Rattle.set_receiver.specs.Taking.{AreAllBytes}
 use Rattle.set_receiver.proofs.TakenSets.{next_read, read_more}
 use Rattle.receiver.specs.Receiving.{IsNext, IsSame, Receiving, Stands, reception}
 use Rattle.receiver.specs.Taking.{AllTaken, HasNext}
 use Rattle.sub_base.specs.Endpoints.{Received}
 use Rattle.sub_base.specs.declared.profile.Profile.{Profile}
 use Rattle.packet_walk.specs.Told.{TellsOne}
-use Rattle.dump_text.specs.DumpText.{IsDumpTextIn, anchor_of, settled_ticks, shown_text, told_ticks}
-use Rattle.dump_text.specs.Dumping.{AreBefore, AreFrom, Dumping, DumpsOn, HasDumped, IsSameDump, IsSettled, IsTold, IsToldOf, PutsBetween, Settles, ticks_between}
+use Rattle.dump_text.specs.DumpText.{IsDumpText, settled_ticks, shown_text, told_ticks}
+use Rattle.dump_text.specs.Dumping.{AreBefore, AreFrom, Dumping, DumpsOn, HasDumped, IsSameDump, IsSettled, IsDumpTold, IsToldOf, PutsBetween, Settles, ticks_between}
 use Rattle.dump_text.proofs.TextLaws.{before_end, text_joined}
 use Rattle.dump_text.proofs.ToldLaws.{told_kept, told_same}
 
@@ -47,11 +48,11 @@ module _ (old new : Receiving) (ticks : List ℕ) (told : ℕ) (at : Option ℕ)
     read : AreDeliveriesRead (reverse (given ++ delivery ∷ [])) (one ∷ past)
     lifted : at ≡ lifted_time old.showing.core.anchor past one
 
-  comes : (ended : Bool) (packets : List (List ℕ)) (text : List ℕ) (is : IsTold ended old ticks told packets text)
+  comes : (ended : Bool) (packets : List (List ℕ)) (text : List ℕ) (is : IsDumpTold ended old ticks told packets text)
       → Comes ended packets is.given is.past
   comes ended packets text is =
       let next = has_next ended packets is.given is.stands in
-      let all = packets_read old.showing.core.profile old.demux.pid old.sets.pages ended packets is.bytes in
+      let all = packets_read (reception old) ended packets is.bytes in
       let found =
       next_read (reception old) ended packets is.given next.1 next.0 all.0 all.1 next.2.all in
       record {
@@ -76,7 +77,7 @@ module _ (old new : Receiving) (ticks : List ℕ) (told : ℕ) (at : Option ℕ)
     goes = λ ended packets text. λ is.
         let next = comes ended packets text is in (
           [],
-          subst (IsTold ended new ticks told packets) (sym (append-nil text)) (record {
+          subst (IsDumpTold ended new ticks told packets) (sym (append-nil text)) (record {
             bytes = is.bytes;
             given = is.given ++ next.delivery ∷ [];
             stands = next.stands;
@@ -136,7 +137,7 @@ dumps_nothing shown receiving ticks told buffer = record {
       λ ended packets
       text. λ is. (
         [],
-        subst (IsTold ended receiving ticks told packets) (sym (append-nil text)) is,
+        subst (IsDumpTold ended receiving ticks told packets) (sym (append-nil text)) is,
         PutsOut-nothing
             shown buffer,
       );
@@ -151,7 +152,7 @@ dumps_both a b c old mid new ticks told next last was between is one other = rec
       let first = one.goes ended packets text state in
       let second = other.goes ended packets (text ++ first.0) first.1 in (
         first.0 ++ second.0,
-        subst (IsTold ended new ticks last packets) (append_assoc text first.0 second.0) second.1,
+        subst (IsDumpTold ended new ticks last packets) (append_assoc text first.0 second.0) second.1,
         PutsOut-both a b c was between is first.0 second.0 first.2 second.2,
       );
 }
@@ -175,9 +176,9 @@ from_nothing anchor ticks k from within = omega arith
 
 -- nothing is told
 abbrev pub nothing_told : (receiving : Receiving) (ticks : List ℕ) → Stands false [] [] receiving
-    → IsTold false receiving ticks 0 [] []
+    → IsDumpTold false receiving ticks 0 [] []
 nothing_told receiving ticks stands = record {
-  bytes = All-nil AreBytes;
+  bytes = All-nil AreAllBytes;
   given = [];
   stands = stands;
   past = [];
@@ -225,18 +226,18 @@ told_lost profile anchor ticks told text (loss ∷ losses) given past within are
 
 -- a packet that was fed
 pub fed_told : (old new : Receiving) (ticks : List ℕ) (told : ℕ) (packets : List (List ℕ))
-    (packet text : List ℕ) → told ≤ length ticks → AreBytes packet → IsSame old new
+    (packet text : List ℕ) → told ≤ length ticks → AreAllBytes packet → IsSame old new
     → ((fed : List (List ℕ)) (given : List (Delivery (List ℕ))) → Stands false fed given old
     → (losses : List (Delivery (List ℕ))) × AreLosses losses
     × Stands false (fed ++ packet ∷ []) (given ++ losses) new)
-    → IsTold false old ticks told packets text → IsTold false new ticks told (packets ++ packet ∷ []) text
+    → IsDumpTold false old ticks told packets text → IsDumpTold false new ticks told (packets ++ packet ∷ []) text
 fed_told old new ticks told packets packet text within bytes same feeds is =
     let fed = feeds packets is.given is.stands in
     let more =
     told_lost old.showing.core.profile old.showing.core.anchor ticks told text fed.0 is.given is.past within fed.1
     is.read is.of in
     record {
-      bytes = All-push AreBytes packets packet is.bytes bytes;
+      bytes = All-push AreAllBytes packets packet is.bytes bytes;
       given = is.given ++ fed.0;
       stands = fed.2;
       past = more.0;
@@ -247,7 +248,7 @@ fed_told old new ticks told packets packet text within bytes same feeds is =
 
 -- a packet that was fed, and the sets that were taken then
 pub packet_told : (before now : Received) (old : Dumping) (mid new : Receiving) (next : ℕ) (was is : Buffered)
-    (place : ℕ) (packet : List ℕ) → old.told ≤ length old.ticks → AreBytes packet → IsSame old.receiving mid
+    (place : ℕ) (packet : List ℕ) → old.told ≤ length old.ticks → AreAllBytes packet → IsSame old.receiving mid
     → ((fed : List (List ℕ)) (given : List (Delivery (List ℕ))) → Stands false fed given old.receiving
     → (losses : List (Delivery (List ℕ))) × AreLosses losses
     × Stands false (fed ++ packet ∷ []) (given ++ losses) mid)
@@ -261,7 +262,6 @@ packet_told before now old mid new next was is place packet within bytes same fe
       let on = dumps.goes false (packets ++ packet ∷ []) text fed in (
         on.0,
         record {
-          anchored = ap (λ (made : Reception). made.anchor) (later ∙ same) ∙ has.anchored;
           within = inside;
           told = on.1;
           all = all (packets ++ packet ∷ []) false on.1.given on.1.stands;
@@ -290,7 +290,7 @@ same_text profile anchor ticks told past text (Some last) is within of =
 
 -- the text of the packets, where the stream goes on
 pub dumped_so_far : (dumping : Dumping) (packets : List (List ℕ)) (text : List ℕ) → HasDumped dumping packets text
-    → IsDumpTextIn (reception dumping.receiving) dumping.ticks false packets text
+    → IsDumpText (reception dumping.receiving) dumping.ticks false packets text
 dumped_so_far dumping packets text has =
     let profile = dumping.receiving.showing.core.profile in
     let anchor = dumping.receiving.showing.core.anchor in
@@ -302,9 +302,7 @@ dumped_so_far dumping packets text has =
       whole = has.told.of.whole
           ∙ ap (shown_text profile anchor has.told.past)
           (sym (same_text profile anchor dumping.ticks dumping.told has.told.past text
-          (last_time anchor has.told.past) refl has.within has.told.of))
-          ∙ ap (λ (a : ℕ). shown_text profile a has.told.past
-          (told_ticks false (last_time a has.told.past) dumping.ticks)) has.anchored;
+          (last_time anchor has.told.past) refl has.within has.told.of));
     }
 
 -- the text of the packets, where the stream has ended with them
@@ -317,10 +315,10 @@ pub dumped_whole : (before mid now : Received) (old : Dumping) (fed new : Receiv
     → PutsBetween new mid now between is old.ticks next (length old.ticks)
     → (packets : List (List ℕ)) (text : List ℕ) → HasDumped old packets text
     → (more : List ℕ)
-    × IsDumpTextIn (reception old.receiving) old.ticks true packets (text ++ more)
+    × IsDumpText (reception old.receiving) old.ticks true packets (text ++ more)
     × PutsOut before now was is more
 dumped_whole before mid now old fed new next was between is finishes same dumps later all within rest packets text has =
-    let ended : IsTold true fed old.ticks old.told packets text = record {
+    let ended : IsDumpTold true fed old.ticks old.told packets text = record {
       bytes = has.told.bytes;
       given = has.told.given;
       stands = finishes packets has.told.given has.told.stands;
@@ -331,7 +329,7 @@ dumped_whole before mid now old fed new next was between is finishes same dumps 
           (sym same) has.told.of;
     } in
     let on = dumps.goes true packets text ended in
-    let state : IsTold true new old.ticks next packets (text ++ on.0) = on.1 in
+    let state : IsDumpTold true new old.ticks next packets (text ++ on.0) = on.1 in
     let profile = new.showing.core.profile in
     let anchor = new.showing.core.anchor in
     let both : IsSame old.receiving new = later ∙ same in
@@ -340,19 +338,18 @@ dumped_whole before mid now old fed new next was between is finishes same dumps 
     ap (λ (front : List ℕ). front ++ others) state.of.whole
     ∙ sym (text_joined profile anchor state.past next (length old.ticks) old.ticks within)
     ∙ ap (shown_text profile anchor state.past) (take_all (length old.ticks) old.ticks (omega arith)) in
-    let at_anchor : anchor ≡ anchor_of old.ticks = ap (λ (made : Reception). made.anchor) both ∙ has.anchored in
-    let is_new : IsDumpTextIn (reception new) old.ticks true packets ((text ++ on.0) ++ others) =
+    let is_new : IsDumpText (reception new) old.ticks true packets ((text ++ on.0) ++ others) =
     record {
       past = state.past;
       received =
           subst (λ (all : List (Delivery (List ℕ))). AreDeliveriesRead (reverse all) state.past)
           (sym (all packets true state.given state.stands)) state.read;
-      whole = whole ∙ ap (λ (a : ℕ). shown_text profile a state.past old.ticks) at_anchor;
+      whole = whole;
     } in (
       on.0 ++ others,
-      subst (λ (t : List ℕ). IsDumpTextIn (reception old.receiving) old.ticks true packets t)
+      subst (λ (t : List ℕ). IsDumpText (reception old.receiving) old.ticks true packets t)
           (append_assoc text on.0 others)
-          (subst (λ (made : Reception). IsDumpTextIn made old.ticks true packets ((text ++ on.0) ++ others)) both
+          (subst (λ (made : Reception). IsDumpText made old.ticks true packets ((text ++ on.0) ++ others)) both
           is_new),
       PutsOut-both before mid now was between is on.0 others on.2
           (rest true packets state.given state.past state.stands state.read state.of.later),

@@ -5,10 +5,9 @@ use Rattle.command_text.specs.PictureText.{clear_line, picture_text}
 use Rattle.decoder_model.specs.declared.pages.Pages.{Pages}
 use Rattle.decoder_model.specs.Kept.{last_time}
 use Rattle.decoder_model.specs.Readings.{Reading}
-use Rattle.decoder_model.specs.Received.{HasReceived}
+use Rattle.decoder_model.specs.Received.{HasReceived, Reception}
 use Rattle.decoder_model.specs.Sets.{Delivery}
 use Rattle.decoder_model.specs.Shown.{View, nothing, plane, view_at}
-use Rattle.set_receiver.specs.Receiving.{Reception}
 use Rattle.sub_base.specs.declared.profile.Profile.{Profile}
 use Rattle.stream_syntax.specs.declared.wire.TheConstants.{HALF_ROUND}
 
@@ -36,16 +35,20 @@ abbrev pub anchor_of : List ℕ → ℕ
 anchor_of [] = 0
 anchor_of (tick ∷ ticks) = tick - HALF_ROUND
 
--- the text of the pictures that are shown at these ticks, in a receiver of a profile for a PID and these pages: the
--- stream ends with these packets, or the text is of the ticks that the packets settle
-pub record IsDumpText (profile : Profile) (pid : ℕ) (pages : Pages) (ticks : List ℕ) (ended : Bool)
-    (packets : List (List ℕ)) (text : List ℕ) : Type 0 where
-  pub past : List (Delivery Reading)
-  pub received : HasReceived profile pid pages ended packets past
-  pub whole : text
-      ≡ shown_text profile (anchor_of ticks) past (told_ticks ended (last_time (anchor_of ticks) past) ticks)
+-- what a receiver is for whose pictures are asked for at these ticks
+abbrev pub asked_for : Profile → ℕ → Pages → List ℕ → Reception
+asked_for profile pid pages ticks = record {
+  profile = profile;
+  pid = pid;
+  pages = pages;
+  anchor = anchor_of ticks;
+}
 
--- the same, in a receiver that is for that
-abbrev pub IsDumpTextIn : Reception → List ℕ → Bool → List (List ℕ) → List ℕ → Type 0
-IsDumpTextIn reception ticks ended packets text =
-    IsDumpText reception.profile reception.pid reception.pages ticks ended packets text
+-- the text of the pictures that a receiver shows at these ticks: the stream ends with these packets, or the text is of
+-- the ticks that the packets settle
+pub record IsDumpText (reception : Reception) (ticks : List ℕ) (ended : Bool) (packets : List (List ℕ))
+    (text : List ℕ) : Type 0 where
+  pub past : List (Delivery Reading)
+  pub received : HasReceived reception ended packets past
+  pub whole : text ≡ shown_text reception.profile reception.anchor past
+      (told_ticks ended (last_time reception.anchor past) ticks)

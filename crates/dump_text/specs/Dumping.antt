@@ -5,15 +5,15 @@ use Rattle.std.specs.List.Sorted.{IsStrictlyIncreasing}
 use Rattle.command_text.specs.Putting.{Buffered, PutsOut}
 use Rattle.decoder_model.specs.Kept.{last_time}
 use Rattle.decoder_model.specs.Readings.{Reading, AreDeliveriesRead}
+use Rattle.decoder_model.specs.Received.{sets_received}
 use Rattle.decoder_model.specs.Sets.{Delivery}
 use Rattle.decoder_model.specs.Shown.{view_at}
 use Rattle.display_sets.specs.Gathered.{ready_sets}
-use Rattle.set_receiver.specs.Receiving.{sets_received}
-use Rattle.set_receiver.specs.Taking.{AreBytes}
+use Rattle.set_receiver.specs.Taking.{AreAllBytes}
 use Rattle.receiver.specs.Receiving.{IsSame, Receiving, Stands, reception}
 use Rattle.sub_base.specs.Endpoints.{Received}
 use Rattle.sub_base.specs.declared.profile.Profile.{Profile}
-use Rattle.dump_text.specs.DumpText.{IsDumpTextIn, anchor_of, shown_text, view_text}
+use Rattle.dump_text.specs.DumpText.{IsDumpText, shown_text, view_text}
 
 -- ---- ticks
 
@@ -67,9 +67,9 @@ pub record IsToldOf (profile : Profile) (anchor : ℕ) (ticks : List ℕ) (told 
 
 -- the receiver was fed the packets, which are of bytes; the stream ends with them or not; and the text is of the first
 -- so many ticks, which they settle
-pub record IsTold (ended : Bool) (receiving : Receiving) (ticks : List ℕ) (told : ℕ) (packets : List (List ℕ))
+pub record IsDumpTold (ended : Bool) (receiving : Receiving) (ticks : List ℕ) (told : ℕ) (packets : List (List ℕ))
     (text : List ℕ) : Type 0 where
-  pub bytes : All AreBytes packets
+  pub bytes : All AreAllBytes packets
   pub given : List (Delivery (List ℕ))
   pub stands : Stands ended packets given receiving
   pub past : List (Delivery Reading)
@@ -124,14 +124,13 @@ Settles receiving before now was is ticks told next (Some time) =
 pub record DumpsOn (before now : Received) (old new : Receiving) (ticks : List ℕ) (told next : ℕ)
     (was is : Buffered)
     : Type 0 where
-  pub goes : (ended : Bool) (packets : List (List ℕ)) (text : List ℕ) → IsTold ended old ticks told packets text
-      → (more : List ℕ) × IsTold ended new ticks next packets (text ++ more) × PutsOut before now was is more
+  pub goes : (ended : Bool) (packets : List (List ℕ)) (text : List ℕ) → IsDumpTold ended old ticks told packets text
+      → (more : List ℕ) × IsDumpTold ended new ticks next packets (text ++ more) × PutsOut before now was is more
 
 -- the packets were taken, and the text is of the ticks that they settle
 pub record HasDumped (dumping : Dumping) (packets : List (List ℕ)) (text : List ℕ) : Type 0 where
-  pub anchored : (reception dumping.receiving).anchor ≡ anchor_of dumping.ticks
   pub within : dumping.told ≤ length dumping.ticks
-  pub told : IsTold false dumping.receiving dumping.ticks dumping.told packets text
+  pub told : IsDumpTold false dumping.receiving dumping.ticks dumping.told packets text
   pub all : sets_received (reception dumping.receiving) false packets ≡ told.given
 
 -- the same receiver and the same ticks
@@ -142,4 +141,4 @@ pub record IsSameDump (old new : Dumping) : Type 0 where
 -- what a receiver at work tells of packets, with which the stream ends or not
 abbrev pub dump_tells : Dumping → Bool → List (List ℕ) → List ℕ → Type 0
 dump_tells dumping ended packets text =
-    IsDumpTextIn (reception dumping.receiving) dumping.ticks ended packets text
+    IsDumpText (reception dumping.receiving) dumping.ticks ended packets text

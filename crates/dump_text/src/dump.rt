@@ -57,14 +57,14 @@ impl<'a> Dump<'a> {
     ghost use Rattle.std.specs.Prelude.{IfErr, IfOk, MatchResult, None, OnErr, OnOk, Some};
     ghost use Rattle.command_text.specs.Putting.{PutsOut};
     ghost use Rattle.packet_source.specs.InHand.{nothing_read};
-    ghost use Rattle.packet_source.specs.Packets.{Stands};
+    ghost use Rattle.packet_source.specs.Packets.{HasGivenInHand};
     ghost use Rattle.packet_source.specs.declared.limits.TheConstants.{STREAM_LIMIT};
     ghost use Rattle.packet_walk.specs.Told.{StaysTold, Tells, TellsOne};
     ghost use Rattle.packet_walk.specs.Walking.{IsEnd};
     ghost use Rattle.stream_syntax.specs.TransportPackets.{packet_fault};
     ghost use Rattle.sub_base.specs.Endpoints.{Supplied};
     ghost use Rattle.receiver.specs.Receiving.{reception};
-    ghost use Rattle.dump_text.specs.DumpText.{IsDumpTextIn};
+    ghost use Rattle.dump_text.specs.DumpText.{IsDumpText, asked_for};
     ghost use Rattle.dump_text.specs.Dumping.{AreAsked, HasDumped, IsSameDump};
 
     /// A receiver of a profile for a PID and these pages, which draws in so many bands, 1 to 64.
@@ -82,10 +82,8 @@ impl<'a> Dump<'a> {
         requires coded { profile.now.coded < 2 ^ 32 }
         requires nodes { profile.now.nodes < 2 ^ 31 }
         requires anchor { anchor_of ticks.now < 2 ^ 34 }
-        ensures pid { IfOk result (λ dump. (reception dump.receiving).pid ≡ pid) }
-        ensures pages { IfOk result (λ dump. (reception dump.receiving).pages ≡ pages) }
-        ensures profile { IfOk result
-            (λ dump. (reception dump.receiving).profile ≡ profile.now) }
+        ensures made { IfOk result (λ dump. reception dump.receiving
+            ≡ asked_for profile.now pid pages ticks.now) }
         ensures ticks { IfOk result (λ dump. dump.ticks ≡ ticks.now) }
         ensures nothing { IfOk result (λ dump. HasDumped dump [] []) }
     {
@@ -116,7 +114,7 @@ impl<'a> Dump<'a> {
         requires buffer { buffer.old ≡ record { waits = []; failed = false } }
         requires stands { HasDumped self.old [] [] }
         requires nothing { packets.old ≡ nothing_read }
-        requires source { (now : Supplied) → Stands now now packets.old [] }
+        requires source { (now : Supplied) → HasGivenInHand now now packets.old [] }
         ensures same { IsSameDump self.old self.new }
         ensures end { IsEnd (HasDumped self.new) (reception self.old.receiving).pid
             (A.supplied stream.old)
@@ -231,7 +229,7 @@ impl<'a> Dump<'a> {
     )
         ensures { (packets : List (List ℕ)) (text : List ℕ) → HasDumped self.old packets text
             → (more : List ℕ)
-            × IsDumpTextIn (reception self.old.receiving) self.old.ticks true packets
+            × IsDumpText (reception self.old.receiving) self.old.ticks true packets
             (text ++ more)
             × PutsOut (K.received out.old) (K.received out.new) buffer.old buffer.new more }
     {

@@ -1,7 +1,7 @@
 ghost use Rattle.std.specs.Prelude.{◌<◌, ◌^◌};
-ghost use Rattle.packet_walk.specs.Closing.{Finishes};
+ghost use Rattle.packet_walk.specs.Closing.{FinishesTold};
 ghost use Rattle.packet_walk.specs.ToldEnds.{IsToldEnd};
-ghost use Rattle.dump_text.specs.DumpText.{IsDumpText, anchor_of};
+ghost use Rattle.dump_text.specs.DumpText.{IsDumpText, anchor_of, asked_for};
 ghost use Rattle.dump_text.specs.Dumping.{AreAsked, HasDumped, dump_tells};
 
 use crate::dump::Dump;
@@ -32,7 +32,7 @@ pub fn dump_stream<R: Threads + Sync, A: Source, K: Sink, G: BandGate + Sync>(
     requires coded { profile.now.coded < 2 ^ 32 }
     requires nodes { profile.now.nodes < 2 ^ 31 }
     requires anchor { anchor_of ticks.now < 2 ^ 34 }
-    ensures { IsToldEnd (IsDumpText profile.now pid pages ticks.now) pid
+    ensures { IsToldEnd (IsDumpText (asked_for profile.now pid pages ticks.now) ticks.now) pid
         (A.supplied stream.old)
         (A.supplied stream.new)
         (K.received out.old)
@@ -62,7 +62,7 @@ fn finish<R: Threads + Sync, K: Sink, G: BandGate + Sync>(
     buffer: &mut TextBuffer,
     end: WalkEnd,
 )
-    ensures { Finishes (HasDumped dump.old) (dump_tells dump.old)
+    ensures { FinishesTold (HasDumped dump.old) (dump_tells dump.old)
         (K.received out.old)
         (K.received out.new)
         buffer.old buffer.new end }

@@ -8,12 +8,12 @@ use Rattle.command_words.specs.Ticks.{asked_ticks}
 use Rattle.dvbsub_cmd.specs.Command.{command_of}
 use Rattle.dvbsub_cmd.specs.CompileOutcome.{IsCompileCause, IsCompilable}
 use Rattle.dvbsub_cmd.specs.Completeness.{IsComplete, IsUntroubled}
-use Rattle.packet_walk.specs.ToldEnds.{IsReadable, Telling}
+use Rattle.packet_walk.specs.ToldEnds.{IsReadableStream, Telling}
 use Rattle.dvbsub_cmd.specs.Dumps.{dumps}
 use Rattle.dvbsub_cmd.specs.ExpectOutcome.{IsExpectCause, IsExpectable}
 use Rattle.dvbsub_cmd.specs.GenOutcome.{IsGenCause}
 use Rattle.dvbsub_cmd.specs.Listing.{lists}
-use Rattle.dvbsub_cmd.specs.Outcome.{HasCause, IsCausedBy, Tells}
+use Rattle.dvbsub_cmd.specs.Outcome.{HasCause, IsCausedBy, TellsStatus}
 use Rattle.script_input.specs.ReadScript.{HasRightScript}
 use Rattle.dvbsub_cmd.specs.InputStatus.{IsInputCause}
 use Rattle.sub_base.specs.Endpoints.{Supplied, Received}
@@ -100,7 +100,7 @@ expect_whole has_font ticks before now (status.InputTooLong which) cause written
 
 stream_whole : (Told : Telling) (pid : ℕ) (before now : Supplied) (out_before out_now : Received) (run : Status)
     → IsStreamCause Told pid before now out_before out_now run
-    → (HasRisen out_before.faults out_now.faults → ⊥) → IsReadable pid before now → IsWhole run
+    → (HasRisen out_before.faults out_now.faults → ⊥) → IsReadableStream pid before now → IsWhole run
 stream_whole Told pid before now out_before out_now (status.Done cut) cause written calm = inl (cut, refl)
 stream_whole Told pid before now out_before out_now status.Usage cause written calm = absurd cause
 stream_whole Told pid before now out_before out_now (status.FontRefused fault) cause written calm = absurd cause
@@ -164,7 +164,7 @@ run_whole words (Some (command.Gen number profile)) before now notes_before note
     gen_whole number profile before.out now.out run cause.0 calm.written
 
 -- the line of the status is written where the notes do not fail
-told : (before now : Received) (run answer : Status) → Tells before now run answer
+told : (before now : Received) (run answer : Status) → TellsStatus before now run answer
     → (HasRisen before.faults now.faults → ⊥) → IsWhole run → IsWhole answer
 told before now run answer (inl line) calm whole = subst IsWhole (sym line.1) whole
 told before now run answer (inr front) calm whole = absurd (calm front.1)

@@ -5,7 +5,6 @@ use Rattle.std.specs.List.{AllByRecursion}
 use Rattle.std.specs.List.Sorted.{IsStrictlyIncreasing}
 use Rattle.std.proofs.lemmas.List.Elements.{All-from_recursion}
 use Rattle.cue_list.specs.declared.script.Script.{Script}
-use Rattle.decoder_model.specs.Frames.{only}
 use Rattle.decoder_model.specs.Streams.{SentSet, entry_set}
 use Rattle.page_epoch.specs.declared.planned_set.PlannedSet.{PlannedSet}
 use Rattle.shown_stream.proofs.Shown.EnteredTimes.{drop_found, drop_rises}
@@ -13,10 +12,9 @@ use Rattle.shown_stream.proofs.Sent.PlannedOrder.{all_above}
 use Rattle.shown_stream.proofs.Sent.PlannedTimes.{pts_of}
 use Rattle.shown_stream.specs.SentSets.{sent_set, sent_sets}
 use Rattle.shown_stream.specs.Shows.{Shows, ShowsFrom, authored_view}
-use Rattle.sub_base.specs.Profile.{profile_of}
 use Rattle.sub_base.specs.declared.profile.ProfileName.{ProfileName}
 use Rattle.dvbsub_cmd.specs.Private.Entries.{HasEntry}
-use Rattle.dvbsub_cmd.specs.GenText.{entry_time, generated_page, generated_pid}
+use Rattle.dvbsub_cmd.specs.GenText.{entry_time, generated_reception}
 use Rattle.dvbsub_cmd.specs.Private.Generating.{AreOf, AreShown, AreTold}
 use Rattle.dvbsub_cmd.specs.declared.generated.Generated.{Generated}
 
@@ -47,10 +45,10 @@ module _ (times : List ℕ) (sets : List PlannedSet) (times_are : times ≡ pts_
 
 shown_late : (name : ProfileName) (script : Script) (packets : List (List ℕ)) (entry : SentSet) (ticks : List ℕ)
     → ((tick : ℕ)
-    → ShowsFrom (profile_of name) generated_pid (only generated_page) 0 packets (Some entry) tick
+    → ShowsFrom (generated_reception name) packets (Some entry) tick
     (authored_view script tick)) → AllByRecursion (λ tick. entry.time ≤ tick) ticks
     → AllByRecursion
-    (λ tick. Shows (profile_of name) generated_pid (only generated_page) 0 packets tick
+    (λ tick. Shows (generated_reception name) packets tick
     (authored_view script tick)) ticks
 shown_late name script packets entry [] shows late = tt
 shown_late name script packets entry (tick ∷ ticks) shows late =
@@ -67,11 +65,11 @@ module _ (name : ProfileName) (made : Generated) (packets : List (List ℕ)) (ti
   entry_shown =
       let sent : SentSet = sent_set made.sent.table number entry.0 in
       All-from_recursion
-      (λ tick. Shows (profile_of name) generated_pid (only generated_page) 0 (drop missed packets) tick
+      (λ tick. Shows (generated_reception name) (drop missed packets) tick
       (authored_view made.script tick)) (drop number times)
       (shown_late name made.script (drop missed packets) sent (drop number times)
       (λ tick. subst
-      (λ (one : Option SentSet). ShowsFrom (profile_of name) generated_pid (only generated_page) 0
+      (λ (one : Option SentSet). ShowsFrom (generated_reception name)
       (drop missed packets) one tick (authored_view made.script tick)) entry.2 (of.shown missed tick))
       (later_times times made.sent.sets of.times_are number entry.0 entry.1 of.told))
 

@@ -19,7 +19,7 @@ use Rattle.schedule.specs.Slots.{Timetable, IsSchedule, IsOnTime, shown_before}
 use Rattle.schedule.proofs.PacketLaws.{some_bytes, some_packets}
 use Rattle.schedule.proofs.SumLaws.{sum_below-suc, sum_below-zero}
 use Rattle.set_coder.specs.SetSizes.{IsSetLoad}
-use Rattle.shown_stream.specs.Compiled.{all_units, IsCompiledFor, IsCompiledTo}
+use Rattle.shown_stream.specs.Compiled.{all_units, IsCompiledFor, IsCompiledTo, Compiling}
 use Rattle.slot_stream.specs.SlotStream.{Piece, packet_of, all_pieces}
 use Rattle.shown_stream.proofs.Sent.CompiledPackets.{packets_in}
 use Rattle.slot_stream.proofs.LaidPackets.{laid, behind, IsAhead}
@@ -102,22 +102,22 @@ has_step Wide made = absurd (false≢true made)
 has_step Large made = omega arith
 
 -- how many packets a script is compiled to at most
-pub packets_few : (name : ProfileName) (pid page : ℕ) (script : Script) (bytes : List ℕ) → IsCompiledFor name
-    → (compiled : IsCompiledTo name pid page script bytes)
-    → length (packets_in name pid page script bytes compiled) ≤ 3240000001
-packets_few name pid page script bytes made compiled =
+pub packets_few : (compiling : Compiling) (bytes : List ℕ) → IsCompiledFor compiling.profile
+    → (compiled : IsCompiledTo compiling bytes)
+    → length (packets_in compiling bytes compiled) ≤ 3240000001
+packets_few compiling bytes made compiled =
     let loads = compiled.loads in
     let slots = compiled.table.slots in
     let pieces = all_pieces (all_units compiled.units) in
-    let pace = pace_of script.origin (profile_of name) in
+    let pace = pace_of compiling.script.origin (profile_of compiling.profile) in
     let ahead = slots_rise loads (length loads) pace compiled.table compiled.schedule in
     let same : length pieces ≡ length slots =
     sym (count_pieces loads compiled.units compiled.sized) ∙ sym compiled.schedule.packets in
-    let times = All-from_recursion (λ (load : WriteLoad). IsTick script.origin load.load.pts) loads
-    (load_times (IsTick script.origin) script compiled.sets loads compiled.planned.asked
-    (times_in_span script (profile_of name) compiled.sets compiled.planned.plan)) in
-    let step : 1 ≤ pace.step = has_step name made in
+    let times = All-from_recursion (λ (load : WriteLoad). IsTick compiling.script.origin load.load.pts) loads
+    (load_times (IsTick compiling.script.origin) compiling.script compiled.sets loads compiled.planned.asked
+    (times_in_span compiling.script (profile_of compiling.profile) compiled.sets compiled.planned.plan)) in
+    let step : 1 ≤ pace.step = has_step compiling.profile made in
     let early = last_early loads (length loads) pace compiled.table 3240000000 compiled.schedule compiled.on_time step
     (λ i inside. some_packets loads i (some_bytes loads i compiled.each inside))
     (λ i inside. (times i no_load inside).early) in
-    omega (arith, laid_behind pid 0 0 pieces slots ahead same, behind_early 3240000000 slots early)
+    omega (arith, laid_behind compiling.pid 0 0 pieces slots ahead same, behind_early 3240000000 slots early)

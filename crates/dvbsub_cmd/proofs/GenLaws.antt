@@ -9,10 +9,10 @@ use Rattle.buffer_model.specs.Calls.{Call}
 use Rattle.check_text.specs.CheckText.{IsPeak}
 use Rattle.cue_list.specs.Sound.{IsTick}
 use Rattle.cue_list.specs.declared.script.Script.{Script}
-use Rattle.decoder_model.specs.Frames.{only}
 use Rattle.decoder_model.specs.Arrivals.{packets_taken}
 use Rattle.decoder_model.specs.Readings.{Reading}
-use Rattle.decoder_model.specs.Sets.{Delivery, sets_of}
+use Rattle.decoder_model.specs.Received.{Reception, sets_received}
+use Rattle.decoder_model.specs.Sets.{Delivery}
 use Rattle.decoder_model.specs.Streams.{entered_at, entry_set}
 use Rattle.packet_source.proofs.JoinedPackets.{whole_packets-concat}
 use Rattle.packet_source.specs.InHand.{whole_packets}
@@ -35,12 +35,11 @@ use Rattle.slot_stream.specs.SlotStream.{all_pieces}
 use Rattle.received_level_laws.specs.StreamCalls.{AreCallsOf, calls_from, itself, set_calls}
 use Rattle.stream_syntax.specs.TransportPackets.{packet_fault}
 use Rattle.sub_base.specs.Profile.{profile_of}
-use Rattle.sub_base.specs.declared.profile.Profile.{Profile}
 use Rattle.sub_base.specs.declared.profile.ProfileName.{ProfileName}
 use Rattle.sub_base.specs.declared.profile.ProfileName.TheVariants.{Sd, Hd, Wide, Large}
 use Rattle.script_stream.proofs.ShownLaws.{anchor_suits, compiled_is_shown, compiled_to, is_free}
 use Rattle.script_stream.proofs.UnitLaws.{AllZip-length}
-use Rattle.dvbsub_cmd.specs.GenText.{IsGenText, IsGeneratedFor, entry_line, entry_time, generated_page, generated_pid, number_line}
+use Rattle.dvbsub_cmd.specs.GenText.{IsGenText, IsGeneratedFor, entry_line, entry_time, generated_pid, number_line, generated_compiling, generated_reception}
 use Rattle.dvbsub_cmd.specs.Private.Generating.{AreOf, AreToldAs, IsCompiledFrom, entry_behind, told_lines}
 use Rattle.dvbsub_cmd.specs.declared.gen_text.Entry.{Entry}
 use Rattle.dvbsub_cmd.specs.declared.gen_text.Told.{Told}
@@ -64,32 +63,31 @@ early_times origin times all zero_is k d inside =
 -- ---- calls
 
 -- the calls of packets by what was received of them
-abbrev calls_by : Profile → ℕ → ℕ → ℕ → List (List ℕ) → List (Delivery Reading) → List Call
-calls_by profile pid page anchor packets past =
-    reverse (calls_from itself profile.coded pid (only page) 0 [] (packets_taken pid packets)
-    (set_calls profile anchor (reverse past)))
+abbrev calls_by : Reception → List (List ℕ) → List (Delivery Reading) → List Call
+calls_by reception packets past =
+    reverse (calls_from itself reception.profile.coded reception.pid reception.pages 0 []
+    (packets_taken reception.pid packets) (set_calls reception.profile reception.anchor (reverse past)))
 
 -- packets have one list of calls
-one_calls : (profile : Profile) (pid page anchor : ℕ) (packets : List (List ℕ)) (calls other : List Call)
-    → AreCallsOf profile pid (only page) anchor 0 false packets calls
-    → AreCallsOf profile pid (only page) anchor 0 false packets other → calls ≡ other
-one_calls profile pid page anchor packets calls other is too =
-    is.are ∙ ap (calls_by profile pid page anchor packets)
-    (same_past (reverse (sets_of profile.coded pid (only page) false packets)) is.past too.past is.received
-    too.received) ∙ sym too.are
+one_calls : (reception : Reception) (packets : List (List ℕ)) (calls other : List Call)
+    → AreCallsOf reception 0 false packets calls → AreCallsOf reception 0 false packets other → calls ≡ other
+one_calls reception packets calls other is too =
+    is.are ∙ ap (calls_by reception packets)
+    (same_past (reverse (sets_received reception false packets)) is.past too.past is.received too.received)
+    ∙ sym too.are
 
 -- ---- the packets
 
 module _ (name : ProfileName) (script : Script) (bytes : List ℕ) (is_for : IsGeneratedFor name)
-    (zero_is : script.origin ≡ 0) (compiled : IsCompiledTo name generated_pid generated_page script bytes) where
+    (zero_is : script.origin ≡ 0) (compiled : IsCompiledTo (generated_compiling name script) bytes) where
   free : IsFree generated_pid
   free = is_free generated_pid (omega arith)
 
-  known : ArePackets name generated_pid generated_page script bytes compiled
-  known = are_packets name generated_pid generated_page script bytes free (sends name is_for) compiled
+  known : ArePackets (generated_compiling name script) bytes compiled
+  known = are_packets (generated_compiling name script) bytes free (sends name is_for) compiled
 
   abbrev packets_sent : List (List ℕ)
-  packets_sent = packets_in name generated_pid generated_page script bytes compiled
+  packets_sent = packets_in (generated_compiling name script) bytes compiled
 
   suits : (missed : ℕ) → IsAnchorOf (first_times_from missed (sent_sets compiled.table compiled.sets)) 0
   suits missed =
@@ -98,10 +96,10 @@ module _ (name : ProfileName) (script : Script) (bytes : List ℕ) (is_for : IsG
       (omega (arith, zero_is)))
 
   shows : (missed tick : ℕ)
-      → ShowsFrom (profile_of name) generated_pid (only generated_page) 0 (entered_at missed packets_sent)
+      → ShowsFrom (generated_reception name) (entered_at missed packets_sent)
       (entry_set missed (sent_sets compiled.table compiled.sets)) tick (authored_view script tick)
   shows missed tick =
-      (compiled_entered name generated_pid generated_page script bytes free (sends name is_for) compiled missed).shown 0
+      (compiled_entered (generated_compiling name script) bytes free (sends name is_for) compiled missed).shown 0
       (suits missed) tick
 
   -- the packets in memory are these
@@ -115,22 +113,22 @@ module _ (name : ProfileName) (script : Script) (bytes : List ℕ) (is_for : IsG
       (pieces_are (profile_of name).coded (all_units compiled.units) known.units))
 
   count_few : length packets_sent ≤ 3240000001
-  count_few = packets_few name generated_pid generated_page script bytes (sends name is_for) compiled
+  count_few = packets_few (generated_compiling name script) bytes (sends name is_for) compiled
 
   -- the calls of the packets are those of the stream that ends with them
-  ended_calls : (peak : ℕ) (is : IsPeak (profile_of name) generated_pid (only generated_page) 0 packets_sent peak)
-      → AreCallsOf (profile_of name) generated_pid (only generated_page) 0 0 true packets_sent is.calls
+  ended_calls : (peak : ℕ) (is : IsPeak (generated_reception name) packets_sent peak)
+      → AreCallsOf (generated_reception name) 0 true packets_sent is.calls
   ended_calls peak is =
-      let stays = compiled_stays name generated_pid generated_page script bytes free compiled known 0 0 (suits 0) in
+      let stays = compiled_stays (generated_compiling name script) bytes free compiled known 0 0 (suits 0) in
       let view = (shows 0 0).is_shown in
-      let calls : List Call = calls_by (profile_of name) generated_pid generated_page 0 packets_sent view.past in
-      let ended : AreCallsOf (profile_of name) generated_pid (only generated_page) 0 0 true packets_sent calls =
+      let calls : List Call = calls_by (generated_reception name) packets_sent view.past in
+      let ended : AreCallsOf (generated_reception name) 0 true packets_sent calls =
       record { past = view.past; received = view.received; are = refl } in
-      let so_far : AreCallsOf (profile_of name) generated_pid (only generated_page) 0 0 false packets_sent calls =
-      subst (λ (packets : List (List ℕ)). AreCallsOf (profile_of name) generated_pid (only generated_page) 0 0 false
+      let so_far : AreCallsOf (generated_reception name) 0 false packets_sent calls =
+      subst (λ (packets : List (List ℕ)). AreCallsOf (generated_reception name) 0 false
       packets calls) (take_all (length packets_sent) packets_sent (omega arith)) (stays.ended calls ended) in
-      subst (AreCallsOf (profile_of name) generated_pid (only generated_page) 0 0 true packets_sent)
-      (one_calls (profile_of name) generated_pid generated_page 0 packets_sent calls is.calls so_far is.called)
+      subst (AreCallsOf (generated_reception name) 0 true packets_sent)
+      (one_calls (generated_reception name) packets_sent calls is.calls so_far is.called)
       ended
 
 -- ---- what is in memory
@@ -166,13 +164,13 @@ are_of name made number is_for is packets times are times_are =
             (times_in_span made.script (profile_of name) compiled.sets compiled.planned.plan) zero_is);
       };
       shown = λ missed tick.
-          subst (λ (sets : List PlannedSet). ShowsFrom (profile_of name) generated_pid (only generated_page) 0
+          subst (λ (sets : List PlannedSet). ShowsFrom (generated_reception name)
           (entered_at missed packets) (entry_set missed (sent_sets made.sent.table sets)) tick
           (authored_view made.script tick)) is.sets
-          (subst (λ (table : Timetable). ShowsFrom (profile_of name) generated_pid (only generated_page) 0
+          (subst (λ (table : Timetable). ShowsFrom (generated_reception name)
           (entered_at missed packets) (entry_set missed (sent_sets table compiled.sets)) tick
           (authored_view made.script tick)) is.table
-          (subst (λ (all : List (List ℕ)). ShowsFrom (profile_of name) generated_pid (only generated_page) 0
+          (subst (λ (all : List (List ℕ)). ShowsFrom (generated_reception name)
           (entered_at missed all) (entry_set missed (sent_sets compiled.table compiled.sets)) tick
           (authored_view made.script tick)) (sym same)
           (shows name made.script made.stream.written is_for zero_is compiled missed tick)));
@@ -194,8 +192,8 @@ gen_text_of name made number is_for is packets are told is_told =
     let all = packets_sent name made.script made.stream.written is_for zero_is compiled in
     let same = are_sent name made.script made.stream.written is_for zero_is compiled packets are in
     let its = known name made.script made.stream.written is_for zero_is compiled in
-    let own : IsPeak (profile_of name) generated_pid (only generated_page) 0 all told.peak =
-    subst (λ (p : List (List ℕ)). IsPeak (profile_of name) generated_pid (only generated_page) 0 p told.peak)
+    let own : IsPeak (generated_reception name) all told.peak =
+    subst (λ (p : List (List ℕ)). IsPeak (generated_reception name) p told.peak)
     same is_told.peak_is in
     let entry : (missed : ℕ) → entry_behind made missed ≡ entry_of compiled.table compiled.sets missed =
     λ missed i. entry_of (sym is.table i) (sym is.sets i) missed in
@@ -209,7 +207,7 @@ gen_text_of name made number is_for is packets are told is_told =
     is_told.two_thirds_are ∙ entry (2 * length packets / 3)
     ∙ ap (λ (p : List (List ℕ)). entry_of compiled.table compiled.sets (2 * length p / 3)) same in
     let joined =
-    compiled_to name generated_pid generated_page made.script made.stream.written (concat all) its.joined compiled
+    compiled_to (generated_compiling name made.script) made.stream.written (concat all) its.joined compiled
     in
     record {
       script = made.script;
@@ -218,7 +216,7 @@ gen_text_of name made number is_for is packets are told is_told =
       whole = its.whole;
       compiled = joined;
       shown =
-          compiled_is_shown name generated_pid generated_page made.script (concat all) (omega arith)
+          compiled_is_shown (generated_compiling name made.script) (concat all) (omega arith)
           (sends name is_for) joined;
       calls = own.calls;
       called = ended_calls name made.script made.stream.written is_for zero_is compiled told.peak own;

@@ -5,7 +5,7 @@ use Rattle.sub_base.specs.Seen.{Seen}
 use Rattle.sub_base.specs.declared.profile.ProfileName.{ProfileName}
 use Rattle.dvbsub_cmd.specs.CompileOutcome.{IsCompileCause, ShowsScript}
 use Rattle.dvbsub_cmd.specs.Headline.{OnDone, IsShownBy}
-use Rattle.dvbsub_cmd.specs.Outcome.{HasCause, IsCausedBy, Tells, untold}
+use Rattle.dvbsub_cmd.specs.Outcome.{HasCause, IsCausedBy, TellsStatus, untold}
 use Rattle.dvbsub_cmd.specs.Command.{command_of}
 use Rattle.dvbsub_cmd.specs.declared.command.Command.{Command}
 use Rattle.dvbsub_cmd.specs.declared.command.Command.TheVariants as command
@@ -65,7 +65,7 @@ untold_is_not_done (Some (command.Compile profile pid page has_font)) before now
 
 -- what was shown of a run is shown of the answer that tells it
 shown_as_told : (command : Option Command) (before now : Seen) (notes_before notes_now : Received)
-    (run answer : Status) → IsShownBy command before now run → Tells notes_before notes_now run answer
+    (run answer : Status) → IsShownBy command before now run → TellsStatus notes_before notes_now run answer
     → IsShownBy command before now answer
 shown_as_told command before now notes_before notes_now run answer is (inl line) =
     subst (IsShownBy command before now) (sym line.1) is

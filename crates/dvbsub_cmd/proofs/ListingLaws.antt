@@ -9,7 +9,7 @@ use Rattle.stream_syntax.specs.Units.{event_at, unit_at}
 use Rattle.stream_syntax.specs.declared.transport.Event.{Event}
 use Rattle.stream_syntax.specs.declared.transport.Event.TheVariants as event
 use Rattle.packet_walk.specs.Told.{TellsOne}
-use Rattle.ts_packets.specs.Demuxing.{Demuxing, Stands, GoesOn}
+use Rattle.ts_packets.specs.Demuxing.{Demuxing, HasDemuxed, DemuxesOn}
 use Rattle.dvbsub_cmd.specs.Listing.{IsListed}
 use Rattle.dvbsub_cmd.specs.ListLines.{loss_line}
 use Rattle.dvbsub_cmd.specs.ListText.{ArePacketLines, AreEndLines, IsListText, unit_limit}
@@ -66,9 +66,9 @@ IsListText-nothing pid = record { lines = []; count = refl; each = λ k h. absur
 -- one packet more is listed
 pub packet_listed : (before mid next : Received) (old new : Demuxing) (was between is : Buffered) (place : ℕ)
     (packet : List ℕ) (event : Event) (unit : Option (List ℕ))
-    → GoesOn old new packet
-    → ((packets : List (List ℕ)) → Stands old packets → event ≡ event_at old.pid old.size packets packet)
-    → ((packets : List (List ℕ)) → Stands old packets → unit ≡ unit_at old.pid old.size packets packet)
+    → DemuxesOn old new packet
+    → ((packets : List (List ℕ)) → HasDemuxed old packets → event ≡ event_at old.pid old.size packets packet)
+    → ((packets : List (List ℕ)) → HasDemuxed old packets → unit ≡ unit_at old.pid old.size packets packet)
     → PutsOut before mid was between (loss_line place event)
     → (lines : List ℕ) × AreEndLines place unit lines × PutsOut mid next between is lines
     → TellsOne IsListed before next old new was is place packet
@@ -103,7 +103,7 @@ packet_listed before mid next old new was between is place packet event unit goe
 
 -- a packet of another PID has no lines, and changes nothing
 pub other_listed : (now : Received) (demux : Demuxing) (buffer : Buffered) (place : ℕ) (packet : List ℕ)
-    → GoesOn demux demux packet
+    → DemuxesOn demux demux packet
     → ((packets : List (List ℕ)) → event_at demux.pid demux.size packets packet ≡ event.Other)
     → ((packets : List (List ℕ)) → unit_at demux.pid demux.size packets packet ≡ None)
     → TellsOne IsListed now now demux demux buffer buffer place packet

@@ -2,7 +2,7 @@
 use Rattle.std.proofs.Common.{◌≡◌, ◌⊎◌, ℕ, inl, inr, refl}
 use Rattle.cue_list.specs.declared.script.Script.{Script}
 use Rattle.generated_script.specs.Generated.{IsGenerated}
-use Rattle.page_epoch.specs.Refusals.{IsCause as IsPlanCause}
+use Rattle.page_epoch.specs.Refusals.{IsPlanCause}
 use Rattle.page_epoch.specs.declared.fault.PlanFault.{PlanFault}
 use Rattle.page_epoch.specs.declared.fault.PlanFault.TheVariants as plan
 use Rattle.schedule.specs.declared.fault.ScheduleFault.{ScheduleFault}
@@ -19,6 +19,7 @@ use Rattle.script_stream.specs.declared.faults.SendFault.TheVariants as send
 use Rattle.sub_base.specs.Endpoints.{Received}
 use Rattle.dvbsub_cmd.specs.GenText.{IsGeneratedFor}
 use Rattle.dvbsub_cmd.specs.Private.Generating.{IsWanting}
+use Rattle.shown_stream.specs.Compiled.{Compiling}
 
 small : (name : ProfileName) → IsGeneratedFor name → (name ≡ Sd) ⊎ (name ≡ Hd)
 small Sd is_for = inl refl
@@ -59,12 +60,12 @@ never_refused number name script is_for is = record {
 }
 
 -- so it is compiled, but for want of memory
-pub only_wanting : (number : ℕ) (name : ProfileName) (pid page : ℕ) (script : Script) (before now : Received)
-    (fault : CompileFault) → IsGeneratedFor name → IsGenerated number script
-    → IsCompileEnd name pid page script before now fault → IsWanting fault
-only_wanting number name pid page script before now (compile.Send send.Memory) is_for is ended = tt
-only_wanting number name pid page script before now (compile.Send (send.Plan refused)) is_for is ended =
-    (never_refused number name script is_for is).has_plan refused ended.0
-only_wanting number name pid page script before now (compile.Send (send.Schedule row refused)) is_for is ended =
-    (never_refused number name script is_for is).has_schedule row refused ended.0
-only_wanting number name pid page script before now compile.Write is_for is ended = tt
+pub only_wanting : (number : ℕ) (compiling : Compiling) (before now : Received)
+    (fault : CompileFault) → IsGeneratedFor compiling.profile → IsGenerated number compiling.script
+    → IsCompileEnd compiling before now fault → IsWanting fault
+only_wanting number compiling before now (compile.Send send.Memory) is_for is ended = tt
+only_wanting number compiling before now (compile.Send (send.Plan refused)) is_for is ended =
+    (never_refused number compiling.profile compiling.script is_for is).has_plan refused ended.0
+only_wanting number compiling before now (compile.Send (send.Schedule row refused)) is_for is ended =
+    (never_refused number compiling.profile compiling.script is_for is).has_schedule row refused ended.0
+only_wanting number compiling before now compile.Write is_for is ended = tt

@@ -4,20 +4,20 @@ use Rattle.std.specs.List.{AllByRecursion, flat_map, range_with_len}
 use Rattle.std.proofs.lemmas.List.Elements.{recursion_from_All}
 use Rattle.command_text.specs.PictureText.{clear_line, is_clear, is_same_colour, plane_row, row_line, sides_line}
 use Rattle.cue_list.specs.declared.script.Script.{Script}
-use Rattle.decoder_model.specs.Frames.{only}
 use Rattle.decoder_model.specs.Readings.{Reading}
-use Rattle.decoder_model.specs.Received.{HasReceived}
-use Rattle.decoder_model.specs.Sets.{Delivery, sets_of}
+use Rattle.decoder_model.specs.Received.{HasReceived, sets_received}
+use Rattle.decoder_model.specs.Sets.{Delivery}
 use Rattle.decoder_model.specs.Shown.{Agrees, IsClear, View, nothing, plane, view_at}
-use Rattle.dump_text.specs.DumpText.{IsDumpText, anchor_of, view_text}
+use Rattle.dump_text.specs.DumpText.{anchor_of, view_text}
 use Rattle.reading_laws.proofs.OneReading.{same_past}
 use Rattle.shown_stream.specs.Shows.{Shows, authored_view}
 use Rattle.sub_base.specs.Colour.{clear}
 use Rattle.sub_base.specs.Profile.{profile_of}
 use Rattle.sub_base.specs.declared.colour.Colour.{Colour}
 use Rattle.sub_base.specs.declared.profile.ProfileName.{ProfileName}
+use Rattle.dvbsub_cmd.specs.Dumps.{dumps}
 use Rattle.dvbsub_cmd.specs.ExpectOutcome.{authored_text, expect_text}
-use Rattle.dvbsub_cmd.specs.GenText.{generated_page, generated_pid}
+use Rattle.dvbsub_cmd.specs.GenText.{generated_page, generated_pid, generated_reception}
 use Rattle.dvbsub_cmd.specs.Private.Generating.{AreShown, AreTold}
 
 -- ---- one picture
@@ -48,15 +48,15 @@ same_text tick shown wanted (inr both) = clear_text tick shown both.0 ∙ sym (c
 -- ---- all pictures
 
 module _ (name : ProfileName) (script : Script) (packets : List (List ℕ)) (past : List (Delivery Reading))
-    (received : HasReceived (profile_of name) generated_pid (only generated_page) true packets past) where
+    (received : HasReceived (generated_reception name) true packets past) where
   abbrev IsSo : ℕ → Type 0
-  IsSo tick = Shows (profile_of name) generated_pid (only generated_page) 0 packets tick (authored_view script tick)
+  IsSo tick = Shows (generated_reception name) packets tick (authored_view script tick)
 
   one_picture : (tick : ℕ) → IsSo tick
       → view_text tick (view_at (profile_of name) 0 tick past) ≡ authored_text script tick
   one_picture tick is =
       let own =
-      same_past (reverse (sets_of (profile_of name).coded generated_pid (only generated_page) true packets)) past
+      same_past (reverse (sets_received (generated_reception name) true packets)) past
       is.is_shown.past received is.is_shown.received in
       ap (λ (all : List (Delivery Reading)). view_text tick (view_at (profile_of name) 0 tick all)) own
       ∙ ap (view_text tick) (sym is.is_shown.is_view)
@@ -75,7 +75,7 @@ from_zero (tick ∷ ticks) told = omega (arith, told.early 0 0 (omega arith))
 -- what a receiver shows has the texts of what is authored
 pub shown_as_authored : (name : ProfileName) (script : Script) (packets : List (List ℕ)) (ticks text : List ℕ)
     → AreTold ticks → AreShown name script packets ticks
-    → IsDumpText (profile_of name) generated_pid (only generated_page) ticks true packets text
+    → dumps name generated_pid generated_page ticks true packets text
     → text ≡ expect_text script ticks
 shown_as_authored name script packets ticks text told shown dumped =
     dumped.whole
@@ -83,5 +83,5 @@ shown_as_authored name script packets ticks text told shown dumped =
     ticks) (from_zero ticks told)
     ∙ all_pictures name script packets dumped.past dumped.received ticks
     (recursion_from_All
-    (λ tick. Shows (profile_of name) generated_pid (only generated_page) 0 packets tick
+    (λ tick. Shows (generated_reception name) packets tick
     (authored_view script tick)) ticks shown)

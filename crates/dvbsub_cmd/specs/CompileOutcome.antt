@@ -5,7 +5,7 @@ use Rattle.cue_list.specs.declared.script.Script.{Script}
 use Rattle.script_input.specs.ReadScript.{ReadsScript, HasRightScript}
 use Rattle.script_stream.specs.Refused.{IsPlanRefused, IsSchedulable, IsScheduleRefused}
 use Rattle.script_stream.specs.ShownRightly.{IsShownRightly}
-use Rattle.shown_stream.specs.Compiled.{IsCompiledTo}
+use Rattle.shown_stream.specs.Compiled.{IsCompiledTo, compiling_for}
 use Rattle.sub_base.specs.Counts.{HasRisen}
 use Rattle.sub_base.specs.Endpoints.{AppendsPrefix, WroteNothing}
 use Rattle.sub_base.specs.Seen.{Seen}
@@ -23,8 +23,8 @@ pub record Compiles (profile : ProfileName) (pid page : ℕ) (has_font : Bool) (
     (packets : List ℕ) : Type 0 where
   pub script : Script
   pub reads : ReadsScript has_font before.first now.first before.second now.second script
-  pub compiled : IsCompiledTo profile pid page script packets
-  pub shown : IsShownRightly profile pid page script compiled.sets compiled.loads compiled.table packets
+  pub compiled : IsCompiledTo (compiling_for profile pid page script) packets
+  pub shown : IsShownRightly (compiling_for profile pid page script) compiled.sets compiled.loads compiled.table packets
 
 -- the output has received the packets of the script that was read
 pub record ShowsScript (profile : ProfileName) (pid page : ℕ) (has_font : Bool) (before now : Seen) : Type 0 where

@@ -4,7 +4,7 @@ use Rattle.sub_base.specs.Counts.{HasRisen}
 use Rattle.dvbsub_cmd.specs.Command.{command_of}
 use Rattle.dvbsub_cmd.specs.CompileOutcome.{IsCompilable}
 use Rattle.dvbsub_cmd.specs.ExpectOutcome.{IsExpectable}
-use Rattle.packet_walk.specs.ToldEnds.{IsReadable}
+use Rattle.packet_walk.specs.ToldEnds.{IsReadableStream}
 use Rattle.sub_base.specs.Endpoints.{Received}
 use Rattle.sub_base.specs.Seen.{Seen}
 use Rattle.dvbsub_cmd.specs.declared.command.Command.{Command}
@@ -16,9 +16,9 @@ use Rattle.dvbsub_cmd.specs.declared.status.Status.TheVariants as status
 abbrev pub IsRightInput : Option Command → Seen → Seen → Type 0
 IsRightInput None before now = ⊥
 IsRightInput (Some (command.Compile profile pid page has_font)) before now = IsCompilable profile has_font before now
-IsRightInput (Some (command.List pid)) before now = IsReadable pid before.first now.first
-IsRightInput (Some (command.Dump profile pid page bands)) before now = IsReadable pid before.first now.first
-IsRightInput (Some (command.Check profile origin pid page)) before now = IsReadable pid before.first now.first
+IsRightInput (Some (command.List pid)) before now = IsReadableStream pid before.first now.first
+IsRightInput (Some (command.Dump profile pid page bands)) before now = IsReadableStream pid before.first now.first
+IsRightInput (Some (command.Check profile origin pid page)) before now = IsReadableStream pid before.first now.first
 IsRightInput (Some (command.Expect has_font)) before now = IsExpectable has_font before now
 IsRightInput (Some (command.Gen number profile)) before now = Unit {0}
 

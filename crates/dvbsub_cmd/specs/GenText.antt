@@ -4,11 +4,11 @@ use Rattle.std.specs.List.{concat}
 use Rattle.buffer_model.specs.Calls.{Call, greatest}
 use Rattle.command_text.specs.Lines.{line_end, then_number}
 use Rattle.cue_list.specs.declared.script.Script.{Script}
-use Rattle.decoder_model.specs.Frames.{only}
+use Rattle.decoder_model.specs.Received.{Reception, for_page}
 use Rattle.decoder_model.specs.Streams.{SentSet, entry_set}
 use Rattle.generated_script.specs.Generated.{IsGenerated}
 use Rattle.script_stream.specs.ShownRightly.{IsShownRightly}
-use Rattle.shown_stream.specs.Compiled.{IsCompiledTo}
+use Rattle.shown_stream.specs.Compiled.{Compiling, IsCompiledTo, compiling_for}
 use Rattle.shown_stream.specs.SentSets.{sent_sets}
 use Rattle.received_level_laws.specs.StreamCalls.{AreCallsOf}
 use Rattle.sub_base.specs.Pace.{pace_of}
@@ -29,6 +29,14 @@ generated_pid = 256
 
 abbrev pub generated_page : ℕ
 generated_page = 1
+
+-- how a generated script is compiled
+abbrev pub generated_compiling : ProfileName → Script → Compiling
+generated_compiling profile script = compiling_for profile generated_pid generated_page script
+
+-- what a receiver of its packets is for, whose lifted times begin at 0
+abbrev pub generated_reception : ProfileName → Reception
+generated_reception profile = for_page profile generated_pid generated_page 0
 
 -- a number behind its name
 abbrev pub number_line : List ℕ → ℕ → List ℕ
@@ -58,11 +66,11 @@ pub record IsGenText (number : ℕ) (profile : ProfileName) (text : List ℕ) : 
   pub generated : IsGenerated number script
   pub packets : List (List ℕ)
   pub whole : All (λ packet. length packet ≡ 188) packets
-  pub compiled : IsCompiledTo profile generated_pid generated_page script (concat packets)
-  pub shown : IsShownRightly profile generated_pid generated_page script compiled.sets compiled.loads compiled.table
+  pub compiled : IsCompiledTo (generated_compiling profile script) (concat packets)
+  pub shown : IsShownRightly (generated_compiling profile script) compiled.sets compiled.loads compiled.table
       (concat packets)
   pub calls : List Call
-  pub called : AreCallsOf (profile_of profile) generated_pid (only generated_page) 0 0 true packets calls
+  pub called : AreCallsOf (generated_reception profile) 0 true packets calls
   pub text_is : text
       ≡ gen_lines (length compiled.sets) (length packets) (greatest (pace_of 0 (profile_of profile)) calls)
       (λ missed. entry_time (entry_set missed (sent_sets compiled.table compiled.sets)))

@@ -1,12 +1,12 @@
 -- What `list` has taken of packets, and what it has told of them.
 use Rattle.std.specs.Prelude.{◌≡◌, ℕ, Bool, List}
-use Rattle.ts_packets.specs.Demuxing.{Demuxing, Stands}
+use Rattle.ts_packets.specs.Demuxing.{Demuxing, HasDemuxed}
 use Rattle.dvbsub_cmd.specs.ListText.{IsListText, unit_limit}
 
 -- the demultiplexer was fed these packets, of which this text is told
 pub record IsListed (demux : Demuxing) (packets : List (List ℕ)) (text : List ℕ) : Type 0 where
   pub size_is : demux.size ≡ unit_limit
-  pub stands : Stands demux packets
+  pub stands : HasDemuxed demux packets
   pub told : IsListText demux.pid packets text
 
 -- what `list` tells of packets, whether the stream ends with them or not

@@ -59,8 +59,8 @@ untold (status.Done cut) = status.WriteFault which.Notes
 untold other = other
 
 -- the notes have received the line of the run's status; or a prefix of it, and their count of faults rose
-abbrev pub Tells : Received → Received → Status → Status → Type 0
-Tells before now run answer =
+abbrev pub TellsStatus : Received → Received → Status → Status → Type 0
+TellsStatus before now run answer =
     (Appends before.written now.written (status_line run) × (answer ≡ run))
     ⊎ (AppendsPrefix before.written now.written (status_line run) × HasRisen before.faults now.faults
     × (answer ≡ untold run))
@@ -68,4 +68,4 @@ Tells before now run answer =
 -- the cause of the status that a command answers, and its line in the notes
 abbrev pub HasCause : List (List ℕ) → Seen → Seen → Received → Received → Status → Type 0
 HasCause words before now notes_before notes_now answer =
-    (run : Status) × IsCaused words before now run × Tells notes_before notes_now run answer
+    (run : Status) × IsCaused words before now run × TellsStatus notes_before notes_now run answer

@@ -2,7 +2,7 @@ ghost use Rattle.std.specs.Prelude.{◌<◌};
 ghost use Rattle.check_text.specs.Checking.{HasChecked};
 ghost use Rattle.shown_stream.specs.Compiled.{IsCompiledFor};
 ghost use Rattle.dvbsub_cmd.specs.Checks.{check_tells, checks};
-ghost use Rattle.dvbsub_cmd.specs.Private.Closing.{Finishes};
+ghost use Rattle.dvbsub_cmd.specs.Private.Closing.{FinishesTold};
 ghost use Rattle.dvbsub_cmd.specs.StreamOutcome.{IsStreamCause};
 ghost use Rattle.stream_syntax.specs.declared.wire.TheConstants.{TIME_ROUND};
 
@@ -53,7 +53,7 @@ pub fn check<A: Source, K: Sink>(
 
 /// Puts out what is told of a stream that has ended, where it was read to its end.
 fn finish<K: Sink>(check: &mut Check, out: &mut K, buffer: &mut TextBuffer, end: WalkEnd)
-    ensures { Finishes (HasChecked check.old) (check_tells check.old)
+    ensures { FinishesTold (HasChecked check.old) (check_tells check.old)
         (K.received out.old)
         (K.received out.new)
         buffer.old buffer.new end }

@@ -1,11 +1,10 @@
 ghost use Rattle.std.specs.Prelude.{◌≡◌, true, IfOk};
 ghost use Rattle.decoder_model.specs.Frames.{only};
 ghost use Rattle.check_text.specs.CheckText.{IsPeak};
-ghost use Rattle.dump_text.specs.DumpText.{IsDumpText};
 ghost use Rattle.shown_stream.specs.Compiled.{IsCompiledFor};
-ghost use Rattle.sub_base.specs.Profile.{profile_of};
+ghost use Rattle.dvbsub_cmd.specs.Dumps.{dumps};
 ghost use Rattle.dvbsub_cmd.specs.ExpectOutcome.{expect_text};
-ghost use Rattle.dvbsub_cmd.specs.GenText.{generated_page, generated_pid};
+ghost use Rattle.dvbsub_cmd.specs.GenText.{generated_page, generated_pid, generated_reception};
 ghost use Rattle.dvbsub_cmd.specs.Private.Generating.{AreShown, AreTakable, AreTold};
 
 use crate::expect::{plane_of, put_pictures};
@@ -60,8 +59,8 @@ fn shown_texts<R: Threads + Sync, G: BandGate + Sync>(
 ) -> Result<MemSink, NoMemory>
     requires packets { AreTakable packets.now }
     requires ticks { AreTold ticks.now }
-    ensures { IfOk result (λ texts. IsDumpText (profile_of profile) generated_pid
-        (only generated_page) ticks.now true packets.now texts.written) }
+    ensures { IfOk result (λ texts. dumps profile generated_pid generated_page
+        ticks.now true packets.now texts.written) }
 {
     let profile = Profile::of(profile);
     let mut dump = Dump::make(alloc, 1, &profile, PID, Pages::only(PAGE), ticks)?;
@@ -100,7 +99,7 @@ pub fn peak_of(alloc: Global, profile: ProfileName, packets: &[[u8; 188]]) -> Re
     requires profile { IsCompiledFor profile }
     requires packets { AreTakable packets.now }
     ensures { IfOk result
-        (IsPeak (profile_of profile) generated_pid (only generated_page) 0 packets.now) }
+        (IsPeak (generated_reception profile) packets.now) }
 {
     let profile = Profile::of(profile);
     let mut check = Check::make(alloc, &profile, 0, PID, Pages::only(PAGE))?;

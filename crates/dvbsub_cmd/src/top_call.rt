@@ -3,7 +3,7 @@ ghost use Rattle.dvbsub_cmd.specs.Command.{command_of as command_of_words, IsInR
 ghost use Rattle.dvbsub_cmd.specs.Completeness.{IsComplete};
 ghost use Rattle.dvbsub_cmd.specs.Headline.{IsShownBy};
 ghost use Rattle.sub_base.specs.Seen.{seen};
-ghost use Rattle.dvbsub_cmd.specs.Outcome.{HasCause, IsCaused, IsSecondKept, Tells};
+ghost use Rattle.dvbsub_cmd.specs.Outcome.{HasCause, IsCaused, IsSecondKept, TellsStatus};
 
 use crate::check::check;
 use crate::command::Command;
@@ -68,7 +68,7 @@ where
 /// Writes the line of the status, and answers the status, or what it becomes where the line cannot
 /// be written.
 pub fn tell<N: Sink>(status: Status, notes: &mut N) -> Status
-    ensures { Tells (N.received notes.old) (N.received notes.new) status result }
+    ensures { TellsStatus (N.received notes.old) (N.received notes.new) status result }
 {
     let line = status_line(status);
     match write_whole(notes, line.as_bytes()) {

@@ -11,7 +11,7 @@ use Rattle.cue_list.specs.declared.epoch.Cue.{Cue}
 use Rattle.cue_list.specs.declared.epoch.Epoch.{Epoch}
 use Rattle.cue_list.specs.declared.epoch.Region.{Region}
 use Rattle.cue_list.specs.Authored.{picture_at_place}
-use Rattle.cue_list.specs.Sound.{IsRegion, AreApart, AreRegions, IsColourRow, FitsRegion, IsCue, IsEpoch, Follows, IsSound}
+use Rattle.cue_list.specs.Sound.{IsRegion, AreSeparate, AreRegions, IsColourRow, FitsRegion, IsCue, IsEpoch, Follows, IsSoundScript}
 use Rattle.generated_script.specs.Generated.{generated_picture, generated_start, generated_length, generated_region, IsGeneratedEpoch}
 use Rattle.generated_script.proofs.ListLaws.{item_count}
 use Rattle.generated_script.proofs.PictureLaws.{picture_made}
@@ -39,7 +39,7 @@ second_region =
       down = omega arith;
     }
 
-apart : AllPairs AreApart (generated_region 0 ∷ generated_region 1 ∷ [])
+apart : AllPairs AreSeparate (generated_region 0 ∷ generated_region 1 ∷ [])
 apart zero zero d low high = absurd (omega arith)
 apart zero (suc zero) d low high = record { ids = λ e. omega arith; rows = inl (omega arith) }
 apart zero (suc (suc j)) d low high = absurd (omega arith)
@@ -171,10 +171,10 @@ follows number e f earlier later less is also =
 
 pub sound : (number : ℕ) (epochs : List Epoch) (pictures : List Picture) → 1 ≤ number → number ≤ 500
     → AllZip (IsGeneratedEpoch number) (range_with_len 0 ((number + 15) / 16)) epochs
-    → pictures ≡ pictures_of number → IsSound 0 320 180 450000 epochs pictures
-sound number epochs pictures some few are drawn = subst (IsSound 0 320 180 450000 epochs) (sym drawn) made
+    → pictures ≡ pictures_of number → IsSoundScript 0 320 180 450000 epochs pictures
+sound number epochs pictures some few are drawn = subst (IsSoundScript 0 320 180 450000 epochs) (sym drawn) made
   where
-    made : IsSound 0 320 180 450000 epochs (pictures_of number)
+    made : IsSoundScript 0 320 180 450000 epochs (pictures_of number)
     made =
         let count = item_count (IsGeneratedEpoch number) 0 ((number + 15) / 16) epochs are in
         let ticks = ticks_generated number epochs are in

@@ -8,11 +8,11 @@ use Rattle.std.proofs.lemmas.Option.{slice_get_cases}
 use Rattle.sub_base.specs.Pace.{IsSending, pace_of}
 use Rattle.sub_base.specs.declared.load.WriteLoad.{WriteLoad}
 use Rattle.sub_base.specs.declared.profile.Profile.{Profile}
-use Rattle.schedule.specs.Refusals.{IsCause}
+use Rattle.schedule.specs.Refusals.{IsScheduleCause}
 use Rattle.schedule.specs.Slots.{IsLoad}
 use Rattle.schedule.specs.declared.fault.ScheduleFault.{ScheduleFault}
 use Rattle.schedule.specs.declared.fault.ScheduleFault.TheVariants.{Memory}
-use Rattle.spaced_set_laws.specs.Apart.{IsSmall, AreApart}
+use Rattle.spaced_set_laws.specs.Apart.{IsSmall, AreWellApart}
 use Rattle.spaced_set_laws.proofs.ApartSets.{times_of, never_refused}
 use Rattle.cue_list.specs.declared.script.Script.{Script}
 use Rattle.page_epoch.specs.declared.planned_set.PlannedSet.{PlannedSet}
@@ -63,7 +63,7 @@ time_there sets i h = by (slice_get_cases sets i).1
     by (inr past) = absurd (omega (arith, h, past.0))
 
 -- the times of the sets of the plan are far apart
-times_apart : (sets : List PlannedSet) → AreFarApart sets → AreApart 0 (map (λ (set : PlannedSet). set.pts) sets)
+times_apart : (sets : List PlannedSet) → AreFarApart sets → AreWellApart 0 (map (λ (set : PlannedSet). set.pts) sets)
 times_apart sets are = record {
   first = λ some.
       let set = time_there sets 0 (omega (arith, some, length-map sets (λ (other : PlannedSet). other.pts))) in
@@ -79,14 +79,14 @@ pub never_refused_by : (number : ℕ) (script : Script) (profile : Profile) (set
     (loads : List WriteLoad) (fault : ScheduleFault) → IsSending profile → IsGenerated number script
     → AreFarApart sets
     → All (IsSmallSet script) sets → AllZip (IsSetLoad script) sets loads → All IsLoad loads
-    → IsCause loads (pace_of script.origin profile) fault → fault ≡ Memory
+    → IsScheduleCause loads (pace_of script.origin profile) fault → fault ≡ Memory
 never_refused_by number script profile sets loads fault sending made far few are each cause =
     let small =
     each_load (IsSetLoad script) IsSmall (IsSmallSet script) sets loads
     (λ set load such is. small_enough load (set_small number script set load made such is)) few are in
     let times = times_of (IsSetLoad script) (λ (set : PlannedSet). set.pts) (λ set load is. is.time) sets loads are in
     let apart =
-    subst (λ (origin : ℕ). AreApart origin (map (λ (set : PlannedSet). set.pts) sets)) (sym made.origin)
+    subst (λ (origin : ℕ). AreWellApart origin (map (λ (set : PlannedSet). set.pts) sets)) (sym made.origin)
     (times_apart sets far) in
     never_refused loads (map (λ (set : PlannedSet). set.pts) sets) script.origin profile fault sending each small times
     apart cause

@@ -9,7 +9,7 @@ use Rattle.sub_base.specs.declared.load.WriteLoad.{WriteLoad}
 use Rattle.sub_base.specs.declared.profile.Profile.{Profile}
 use Rattle.sub_base.specs.declared.profile.ProfileName.{ProfileName}
 use Rattle.sub_base.specs.declared.profile.ProfileName.TheVariants.{Sd, Hd}
-use Rattle.schedule.specs.Refusals.{IsCause}
+use Rattle.schedule.specs.Refusals.{IsScheduleCause}
 use Rattle.schedule.specs.Slots.{IsLoad}
 use Rattle.schedule.specs.declared.fault.ScheduleFault.{ScheduleFault}
 use Rattle.schedule.specs.declared.fault.ScheduleFault.TheVariants.{Memory}
@@ -43,7 +43,7 @@ planned_small number script profile sets set load made plan one is =
 pub schedule_never_refused : (number : ℕ) (script : Script) (profile : Profile) (sets : List PlannedSet)
     (loads : List WriteLoad) (fault : ScheduleFault) → IsSending profile → IsGenerated number script
     → IsPlan script profile sets → AllZip (IsSetLoad script) sets loads → All IsLoad loads
-    → IsCause loads (pace_of script.origin profile) fault → fault ≡ Memory
+    → IsScheduleCause loads (pace_of script.origin profile) fault → fault ≡ Memory
 schedule_never_refused number script profile sets loads fault sending made plan are each cause =
     never_refused_by number script profile sets loads fault sending made
     (sets_apart number script profile sets made plan) (planned_few number script profile sets made plan) are each cause
@@ -53,7 +53,7 @@ pub no_schedule_fault : (number : ℕ) (script : Script) (name : ProfileName) (s
     (loads : List WriteLoad) (fault : ScheduleFault)
     → (name ≡ Sd) ⊎ (name ≡ Hd) → IsGenerated number script → IsPlan script (profile_of name) sets
     → AllZip (IsSetLoad script) sets loads → All IsLoad loads
-    → IsCause loads (pace_of script.origin (profile_of name)) fault → fault ≡ Memory
+    → IsScheduleCause loads (pace_of script.origin (profile_of name)) fault → fault ≡ Memory
 no_schedule_fault number script name sets loads fault one made plan are each cause =
     schedule_never_refused number script (profile_of name) sets loads fault (sending one) made plan are each cause
   where

@@ -21,8 +21,8 @@ use Rattle.generated_script.proofs.TickLaws.{epoch_at}
 use Rattle.page_epoch.specs.declared.planned_set.PlannedSet.{PlannedSet}
 use Rattle.page_epoch.specs.declared.planned_set.SentRegion.{SentRegion}
 use Rattle.page_epoch.specs.Live.{live_places}
-use Rattle.page_epoch.specs.Plan.{IsCarried, IsNext, IsPlan}
-use Rattle.page_epoch.specs.Sendable.{IsSendable, IsSendableRegion}
+use Rattle.page_epoch.specs.Plan.{IsCarried, IsNextSet, IsPlan}
+use Rattle.page_epoch.specs.Sendable.{IsOfItsEpoch, IsSendableRegion}
 use Rattle.page_epoch.specs.SentCluts.{clut_count, sent_clut, sent_cluts}
 use Rattle.page_epoch.specs.SentRegions.{is_redrawn, is_extended, region_version, live_before, filled, extended, region_from, sent_region, AreShown, listed_cues}
 use Rattle.page_epoch.proofs.ListLaws.{filter_none, length_kept, one_each}
@@ -152,7 +152,7 @@ some_same : {X : Type 0} (x y : X) → Some x ≡ Some y → x ≡ y
 some_same x y h = cc
 
 set_few : (number : ℕ) (script : Script) (set : PlannedSet) (past : List PlannedSet) (epoch : Epoch)
-    → IsGenerated number script → IsNext script.epochs script.refresh past set → IsSendable script set
+    → IsGenerated number script → IsNextSet script.epochs script.refresh past set → IsOfItsEpoch script set
     → slice_get script.epochs set.epoch ≡ Some epoch → ListsFew epoch set
 set_few number script set past epoch is next sendable found =
     let same = some_same next.epoch epoch (sym next.place.found ∙ found) in
@@ -176,4 +176,4 @@ lists_few number script profile sets set epoch is plan among found =
     let at : slice_get sets k ≡ Some set =
     slice_get-get_or sets k set among.1 ∙ ap (λ (x : PlannedSet). Some x) here in
     set_few number script set _ epoch is (plan.planned.first.each k set at)
-    (subst (IsSendable script) here (sendable k set among.1)) found
+    (subst (IsOfItsEpoch script) here (sendable k set among.1)) found

@@ -14,7 +14,7 @@ use Rattle.generated_script.specs.Generated.{IsGenerated, IsGeneratedEpoch}
 use Rattle.page_epoch.specs.declared.fault.PlanFault.{PlanFault}
 use Rattle.page_epoch.specs.declared.fault.PlanFault.TheVariants.{Memory, DisplayTooLarge, PixelFull, CompositionFull}
 use Rattle.page_epoch.specs.Needs.{pixel_need, clut_nodes, node_need}
-use Rattle.page_epoch.specs.Refusals.{IsFirstUnheld, IsCause}
+use Rattle.page_epoch.specs.Refusals.{IsFirstUnheld, IsPlanCause}
 use Rattle.page_epoch.specs.SentCluts.{sent_cluts}
 use Rattle.page_epoch.specs.States.{seen_of}
 use Rattle.page_epoch.specs.SentRegions.{drawn_count}
@@ -65,7 +65,7 @@ small number script profile row pixels nodes is unheld =
 
 -- every profile holds what is needed
 pub plan_never_refused : (number : ℕ) (script : Script) (profile : Profile) (fault : PlanFault) → IsProfile profile
-    → IsGenerated number script → IsCause script profile fault → fault ≡ Memory
+    → IsGenerated number script → IsPlanCause script profile fault → fault ≡ Memory
 plan_never_refused number script profile Memory enough is cause = refl
 plan_never_refused number script profile (DisplayTooLarge row) enough is cause =
     let width = is.width in
@@ -82,6 +82,6 @@ plan_never_refused number script profile (CompositionFull row need) enough is ca
 
 -- so those of receivers of standard and of high definition
 pub no_plan_fault : (number : ℕ) (script : Script) (name : ProfileName) (fault : PlanFault) → (name ≡ Sd)
-    ⊎ (name ≡ Hd) → IsGenerated number script → IsCause script (profile_of name) fault → fault ≡ Memory
+    ⊎ (name ≡ Hd) → IsGenerated number script → IsPlanCause script (profile_of name) fault → fault ≡ Memory
 no_plan_fault number script name fault which is cause =
     plan_never_refused number script (profile_of name) fault (every_profile name) is cause

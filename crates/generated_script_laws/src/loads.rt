@@ -7,7 +7,7 @@ ghost use Rattle.generated_script_laws.specs.SmallLoads.{IsSmallLoad, IsSmallSet
 ghost use Rattle.generated_script.specs.Generated.{IsGenerated};
 ghost use Rattle.page_epoch.specs.Plan.{IsPlan};
 ghost use Rattle.page_epoch.specs.declared.planned_set.PlannedSet.{PlannedSet};
-ghost use Rattle.schedule.specs.Refusals.{IsCause};
+ghost use Rattle.schedule.specs.Refusals.{IsScheduleCause};
 ghost use Rattle.schedule.specs.Slots.{IsLoad};
 ghost use Rattle.schedule.specs.declared.fault.ScheduleFault.{ScheduleFault};
 ghost use Rattle.schedule.specs.declared.fault.ScheduleFault.TheVariants.{Memory};
@@ -35,5 +35,5 @@ pub fn no_schedule_is_refused()
         (loads : List WriteLoad) (fault : ScheduleFault)
         → IsSending profile → IsGenerated number script → IsPlan script profile sets
         → AllZip (IsSetLoad script) sets loads → All IsLoad loads
-        → IsCause loads (pace_of script.origin profile) fault → fault ≡ Memory }
+        → IsScheduleCause loads (pace_of script.origin profile) fault → fault ≡ Memory }
 {}

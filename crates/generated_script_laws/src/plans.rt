@@ -8,7 +8,7 @@ ghost use Rattle.generated_script_laws.specs.Listed.{AreFarApart, ListsFew};
 ghost use Rattle.generated_script.specs.Generated.{IsGenerated};
 ghost use Rattle.page_epoch.specs.Instants.{IsRefresh};
 ghost use Rattle.page_epoch.specs.Plan.{IsPlan};
-ghost use Rattle.page_epoch.specs.Refusals.{IsCause};
+ghost use Rattle.page_epoch.specs.Refusals.{IsPlanCause};
 ghost use Rattle.page_epoch.specs.declared.fault.PlanFault.{PlanFault};
 ghost use Rattle.page_epoch.specs.declared.fault.PlanFault.TheVariants.{Memory};
 ghost use Rattle.page_epoch.specs.declared.planned_set.PlannedSet.{PlannedSet};
@@ -18,7 +18,7 @@ ghost use Rattle.sub_base.specs.Profile.{IsProfile};
 /// A plan is refused for want of memory alone, whatever the profile.
 pub fn no_plan_is_refused()
     ensures { (number : ℕ) (script : Script) (profile : Profile) (fault : PlanFault)
-        → IsProfile profile → IsGenerated number script → IsCause script profile fault
+        → IsProfile profile → IsGenerated number script → IsPlanCause script profile fault
         → fault ≡ Memory }
 {}
 

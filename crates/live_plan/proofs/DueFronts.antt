@@ -19,7 +19,7 @@ use Rattle.cue_list.proofs.FactLaws.{IsRightRow-from}
 use Rattle.page_epoch.specs.Growth.{Grows}
 use Rattle.shown_stream.specs.Compiled.{IsCompiledTo}
 use Rattle.live_plan.specs.LetIn.{IsScriptBehind, LetIn}
-use Rattle.live_plan.specs.LiveRows.{AHEAD, Inserter, IsBatchOf, Taken, row, tick, due_front, has_epoch, last_tick, nearest_in, next_record, records_in, rows_in, slots_by}
+use Rattle.live_plan.specs.LiveRows.{AHEAD, Inserter, IsBatchOf, RowOrTick, row, tick, due_front, has_epoch, last_tick, nearest_in, next_record, records_in, rows_in, slots_by, compiling_by}
 use Rattle.live_plan.proofs.DuePackets.{due_goes_on}
 use Rattle.live_plan.proofs.GrownScripts.{IsHead, IsLate, ListsScript, same_script_grows, script_grows, start_of}
 use Rattle.live_plan.proofs.TakenRows.{late_epoch, length-nearest, listed, nearest_more, row_late, row_let_in, row_right, still_epoch, tick_let_in, ticks_rise}
@@ -27,7 +27,7 @@ use Rattle.live_plan.proofs.TakenRows.{late_epoch, length-nearest, listed, neare
 -- ---- a row that is let in
 
 -- the first tick that a row has a part in, by its kind
-same_start : (past : List Taken) (inserter : Inserter) (kind : RowKind) (cells : Row)
+same_start : (past : List RowOrTick) (inserter : Inserter) (kind : RowKind) (cells : Row)
     → start_of kind cells (last_epoch inserter.font (nearest_in past))
     ≡ first_tick (looking_back inserter.font (nearest_in past)) kind cells
 same_start past inserter kinds.Origin cells = refl
@@ -46,7 +46,7 @@ misplaced : (place rows : ℕ) → place ≤ 2 → 4 ≤ rows → not (rows == p
 misplaced place rows low many test =
     let is : rows ≡ place = grind (arith, nat_tests) in omega (arith, low, many, is)
 
-is_no_head : (inserter : Inserter) (past : List Taken) (kind : RowKind)
+is_no_head : (inserter : Inserter) (past : List RowOrTick) (kind : RowKind)
     → 4 ≤ length (nearest_in past) → is_misplaced (looking_back inserter.font (nearest_in past)) kind ≡ false
     → IsHead kind → ⊥
 is_no_head inserter past kinds.Origin many placed is =
@@ -68,7 +68,7 @@ some_found None f some = some
 some_found (Some one) f some = refl
 
 -- a script of rows that were let in, and that with one row more: it goes on above the horizon
-pub rows_grow : (inserter : Inserter) (past : List Taken) (cells : Row) (time : ℕ) (old new : Script)
+pub rows_grow : (inserter : Inserter) (past : List RowOrTick) (cells : Row) (time : ℕ) (old new : Script)
     → last_tick past ≡ Some time → LetIn inserter (row cells ∷ past) → IsScriptBehind inserter past old
     → IsScriptBehind inserter (row cells ∷ past) new → Grows (time + AHEAD) old new
 rows_grow inserter past cells time old new last let_in was now =
@@ -118,7 +118,7 @@ slots_rise origin step first second less =
 abbrev step_of : Inserter → ℕ
 step_of inserter = (pace_of 0 (profile_of inserter.profile)).step
 
-abbrev origin_of : Inserter → List Taken → ℕ
+abbrev origin_of : Inserter → List RowOrTick → ℕ
 origin_of inserter past = (looking_back inserter.font (nearest_in past)).origin
 
 -- a front of bytes goes on
@@ -126,16 +126,16 @@ abbrev Begins : List ℕ → List ℕ → Type 0
 Begins front bytes = (more : List ℕ) × (bytes ≡ front ++ more)
 
 -- the scripts of two batches
-record AreScripts (inserter : Inserter) (past later : List Taken) (packets now : List ℕ) : Type 0 where
+record AreScripts (inserter : Inserter) (past later : List RowOrTick) (packets now : List ℕ) : Type 0 where
   old : Script
   new : Script
   was : IsScriptBehind inserter past old
   is : IsScriptBehind inserter later new
-  before : IsCompiledTo inserter.profile inserter.pid inserter.page old packets
-  after : IsCompiledTo inserter.profile inserter.pid inserter.page new now
+  before : IsCompiledTo (compiling_by inserter old) packets
+  after : IsCompiledTo (compiling_by inserter new) now
 
 -- either there was no epoch, or both batches have scripts
-both_batches : (inserter : Inserter) (past later : List Taken) (packets now : List ℕ)
+both_batches : (inserter : Inserter) (past later : List RowOrTick) (packets now : List ℕ)
     → (has_epoch (records_in past) ≡ true → has_epoch (records_in later) ≡ true)
     → IsBatchOf inserter past packets → IsBatchOf inserter later now
     → (packets ≡ []) ⊎ AreScripts inserter past later packets now
@@ -153,7 +153,7 @@ both_batches inserter past later packets now stays (inr (some, old, right, compi
     })
 
 -- one batch is that of the same rows, or of these and one more
-grown_batch : (inserter : Inserter) (past later : List Taken) (time : ℕ) (packets now : List ℕ)
+grown_batch : (inserter : Inserter) (past later : List RowOrTick) (time : ℕ) (packets now : List ℕ)
     → (scripts : AreScripts inserter past later packets now) → Grows (time + AHEAD) scripts.old scripts.new
     → Begins (due_front inserter past time packets) now × (origin_of inserter later ≡ origin_of inserter past)
 grown_batch inserter past later time packets now scripts grows =
@@ -175,12 +175,12 @@ nothing_taken : (n : ℕ) (bytes : List ℕ) → bytes ≡ [] → take n bytes �
 nothing_taken n bytes none =
     take_all n bytes (omega (arith, ap (λ (xs : List ℕ). length xs) none)) ∙ none
 
-nothing_due : (inserter : Inserter) (past : List Taken) (time : ℕ) (packets : List ℕ) → packets ≡ []
+nothing_due : (inserter : Inserter) (past : List RowOrTick) (time : ℕ) (packets : List ℕ) → packets ≡ []
     → due_front inserter past time packets ≡ []
 nothing_due inserter past time packets none =
     nothing_taken (188 * slots_by (origin_of inserter past) (step_of inserter) time) packets none
 
-nothing_begins : (inserter : Inserter) (past : List Taken) (time : ℕ) (packets now : List ℕ) → packets ≡ []
+nothing_begins : (inserter : Inserter) (past : List RowOrTick) (time : ℕ) (packets now : List ℕ) → packets ≡ []
     → Begins (due_front inserter past time packets) now
 nothing_begins inserter past time packets now none =
     (now, sym (ap (λ (bytes : List ℕ). bytes ++ now) (nothing_due inserter past time packets none)))
@@ -188,11 +188,12 @@ nothing_begins inserter past time packets now none =
 -- ---- one row or tick more
 
 -- what is due for the last tick is a front of the next batch
-record GoesOn (inserter : Inserter) (past : List Taken) (taken : Taken) (time : ℕ) (packets now : List ℕ) : Type 0 where
+record GoesOn (inserter : Inserter) (past : List RowOrTick) (taken : RowOrTick) (time : ℕ)
+    (packets now : List ℕ) : Type 0 where
   begins : Begins (due_front inserter past time packets) now
   origin : (packets ≡ []) ⊎ (origin_of inserter (taken ∷ past) ≡ origin_of inserter past)
 
-row_goes_on : (inserter : Inserter) (past : List Taken) (taken : Taken) (time : ℕ) (packets now : List ℕ)
+row_goes_on : (inserter : Inserter) (past : List RowOrTick) (taken : RowOrTick) (time : ℕ) (packets now : List ℕ)
     → last_tick past ≡ Some time → LetIn inserter (taken ∷ past) → IsBatchOf inserter past packets
     → IsBatchOf inserter (taken ∷ past) now → GoesOn inserter past taken time packets now
 row_goes_on inserter past (tick later) time packets now last let_in was is =
@@ -221,13 +222,13 @@ row_goes_on inserter past (row cells) time packets now last let_in was is =
 -- ---- all later rows
 
 -- what was let in has a batch
-last_batch : (inserter : Inserter) (taken : Taken) (past : List Taken) → LetIn inserter (taken ∷ past)
+last_batch : (inserter : Inserter) (taken : RowOrTick) (past : List RowOrTick) → LetIn inserter (taken ∷ past)
     → (packets : List ℕ) × IsBatchOf inserter (taken ∷ past) packets
 last_batch inserter taken past ((cells, same, is), before) =
-    (is.packets, subst (λ (one : Taken). IsBatchOf inserter (one ∷ past) is.packets) (sym same) is.batch)
+    (is.packets, subst (λ (one : RowOrTick). IsBatchOf inserter (one ∷ past) is.packets) (sym same) is.batch)
 
 -- the last tick lies no lower than one that was let in before
-record HasTick (past : List Taken) (time : ℕ) : Type 0 where
+record HasTick (past : List RowOrTick) (time : ℕ) : Type 0 where
   last : ℕ
   is_last : last_tick past ≡ Some last
   rises : time ≤ last
@@ -235,7 +236,8 @@ record HasTick (past : List Taken) (time : ℕ) : Type 0 where
 above_last : (last time : ℕ) → nat_le time last ≡ false → last < time
 above_last last time test = grind (arith, nat_tests)
 
-still_ticks : (inserter : Inserter) (taken : Taken) (past : List Taken) (time : ℕ) → LetIn inserter (taken ∷ past)
+still_ticks : (inserter : Inserter) (taken : RowOrTick) (past : List RowOrTick) (time : ℕ)
+    → LetIn inserter (taken ∷ past)
     → HasTick past time → HasTick (taken ∷ past) time
 still_ticks inserter (row cells) past time let_in has =
     record { last = has.last; is_last = has.is_last; rises = has.rises }
@@ -246,7 +248,7 @@ still_ticks inserter (tick later) past time let_in has =
     record { last = later; is_last = refl; rises = omega (arith, above_last has.last later test, has.rises) }
 
 -- what is due for a tick stands at the front of a later batch; where it is not empty, the slots begin at the same tick
-record Stands (inserter : Inserter) (past later : List Taken) (time : ℕ) (due now : List ℕ) : Type 0 where
+record Stands (inserter : Inserter) (past later : List RowOrTick) (time : ℕ) (due now : List ℕ) : Type 0 where
   begins : Begins due now
   origin : (due ≡ []) ⊎ (origin_of inserter later ≡ origin_of inserter past)
 
@@ -268,13 +270,13 @@ no_front [] more is = refl
 no_front (first ∷ due) more is = absurd (let never : [] ≡ first ∷ (due ++ more) = is in cc)
 
 -- the front that is due has no more bytes than its slots have
-due_short : (inserter : Inserter) (past : List Taken) (time : ℕ) (packets : List ℕ)
+due_short : (inserter : Inserter) (past : List RowOrTick) (time : ℕ) (packets : List ℕ)
     → length (due_front inserter past time packets) ≤ 188 * slots_by (origin_of inserter past) (step_of inserter) time
 due_short inserter past time packets =
     omega (arith, length-take (188 * slots_by (origin_of inserter past) (step_of inserter) time) packets)
 
 -- one more behind a batch that stands
-one_stands : (inserter : Inserter) (past middle : List Taken) (taken : Taken) (time last : ℕ)
+one_stands : (inserter : Inserter) (past middle : List RowOrTick) (taken : RowOrTick) (time last : ℕ)
     (packets between now : List ℕ) → time ≤ last
     → Stands inserter past middle time (due_front inserter past time packets) between
     → GoesOn inserter middle taken last between now
@@ -309,7 +311,7 @@ one_stands inserter past middle taken time last packets between now rises stands
         }
 
 -- what is due for a tick stands in every later batch
-all_stand : (inserter : Inserter) (past later : List Taken) (time : ℕ) (packets : List ℕ)
+all_stand : (inserter : Inserter) (past later : List RowOrTick) (time : ℕ) (packets : List ℕ)
     → LetIn inserter (later ++ tick time ∷ past) → IsBatchOf inserter past packets
     → HasTick (later ++ tick time ∷ past) time
     × ((now : List ℕ) → IsBatchOf inserter (later ++ tick time ∷ past) now
@@ -344,13 +346,13 @@ all_stand inserter past (taken ∷ later) time packets let_in was =
           (row_goes_on inserter middle taken has.last between.0 now has.is_last let_in between.1 is),
     )
   where
-    batch_of : (later : List Taken) → LetIn inserter (later ++ tick time ∷ past)
+    batch_of : (later : List RowOrTick) → LetIn inserter (later ++ tick time ∷ past)
         → (packets : List ℕ) × IsBatchOf inserter (later ++ tick time ∷ past) packets
     batch_of [] inside = last_batch inserter (tick time) past inside
     batch_of (taken ∷ later) inside = last_batch inserter taken (later ++ tick time ∷ past) inside
 
 -- what is due for a tick is a front of every later batch
-pub due_stays : (inserter : Inserter) (past later : List Taken) (time : ℕ) (packets now : List ℕ)
+pub due_stays : (inserter : Inserter) (past later : List RowOrTick) (time : ℕ) (packets now : List ℕ)
     → LetIn inserter (later ++ tick time ∷ past) → IsBatchOf inserter past packets
     → IsBatchOf inserter (later ++ tick time ∷ past) now
     → (more : List ℕ) × (now ≡ due_front inserter past time packets ++ more)
@@ -358,23 +360,24 @@ due_stays inserter past later time packets now let_in was is =
     ((all_stand inserter past later time packets let_in was).1 now is).begins
 
 -- the slots of a later tick are no fewer than those that are due
-pub slots_later : (inserter : Inserter) (all past later : List Taken) (time next : ℕ) (packets : List ℕ)
+pub slots_later : (inserter : Inserter) (all past later : List RowOrTick) (time next : ℕ) (packets : List ℕ)
     → all ≡ later ++ tick time ∷ past → LetIn inserter all → IsBatchOf inserter past packets → time ≤ next
     → length (due_front inserter past time packets)
     ≤ 188 * slots_by (origin_of inserter all) (step_of inserter) next
 slots_later inserter all past later time next packets parts let_in was rises =
-    subst (λ (p : List Taken). length due ≤ 188 * slots_by (origin_of inserter p) (step_of inserter) next) (sym parts)
+    subst (λ (p : List RowOrTick). length due ≤ 188 * slots_by (origin_of inserter p) (step_of inserter) next)
+    (sym parts)
     (by (stands later (subst (LetIn inserter) parts let_in)).origin)
   where
     due : List ℕ
     due = due_front inserter past time packets
 
-    batch_of : (later : List Taken) → LetIn inserter (later ++ tick time ∷ past)
+    batch_of : (later : List RowOrTick) → LetIn inserter (later ++ tick time ∷ past)
         → (now : List ℕ) × IsBatchOf inserter (later ++ tick time ∷ past) now
     batch_of [] inside = last_batch inserter (tick time) past inside
     batch_of (taken ∷ later) inside = last_batch inserter taken (later ++ tick time ∷ past) inside
 
-    stands : (later : List Taken) → (inside : LetIn inserter (later ++ tick time ∷ past))
+    stands : (later : List RowOrTick) → (inside : LetIn inserter (later ++ tick time ∷ past))
         → Stands inserter past (later ++ tick time ∷ past) time due (batch_of later inside).0
     stands later inside =
         let now = batch_of later inside in (all_stand inserter past later time packets inside was).1 now.0 now.1

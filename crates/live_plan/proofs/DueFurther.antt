@@ -10,17 +10,17 @@ use Rattle.live_plan.proofs.DueRows.{due_begins, front_goes_on, split_tick}
 use Rattle.live_plan.proofs.OneBatch.{one_batch}
 use Rattle.live_plan.proofs.TakenRows.{tick_let_in, ticks_rise}
 use Rattle.live_plan.specs.LetIn.{LetIn}
-use Rattle.live_plan.specs.LiveRows.{Inserter, IsDue, IsDueBy, Taken, before_tick, due_front, last_tick, nearest_in, row, slots_by, tick}
+use Rattle.live_plan.specs.LiveRows.{Inserter, IsDue, IsDueBy, RowOrTick, before_tick, due_front, last_tick, nearest_in, row, slots_by, tick}
 
 -- a tick that was let in lies above the last one
-later_tick : (inserter : Inserter) (past : List Taken) (last next : ℕ) → LetIn inserter (tick next ∷ past)
+later_tick : (inserter : Inserter) (past : List RowOrTick) (last next : ℕ) → LetIn inserter (tick next ∷ past)
     → last_tick past ≡ Some last → last ≤ next
 later_tick inserter past last next inside is =
     let test : nat_le next last ≡ false =
     rw is at (ticks_rise inserter past next (tick_let_in inserter past next inside)) in
     grind (arith, nat_tests)
 
-module _ (inserter : Inserter) (past : List Taken) (before now : List ℕ) where
+module _ (inserter : Inserter) (past : List RowOrTick) (before now : List ℕ) where
   abbrev Begins : Type 0
   Begins = (more : List ℕ) × (now ≡ before ++ more)
 
@@ -65,7 +65,7 @@ module _ (inserter : Inserter) (past : List Taken) (before now : List ℕ) where
       front_goes_on (188 * slots) before begins.0 now is_front longer
 
 -- what is due with one row more begins with what was due
-pub due_goes_further : (inserter : Inserter) (past : List Taken) (taken : Taken) (before now : List ℕ)
+pub due_goes_further : (inserter : Inserter) (past : List RowOrTick) (taken : RowOrTick) (before now : List ℕ)
     → LetIn inserter (taken ∷ past) → IsDue inserter past before → IsDue inserter (taken ∷ past) now
     → (more : List ℕ) × (now ≡ before ++ more)
 due_goes_further inserter past (row cells) before now inside was is =

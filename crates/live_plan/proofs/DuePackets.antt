@@ -26,7 +26,8 @@ use Rattle.set_coder.specs.SetSizes.{IsSetLoad}
 use Rattle.set_coder.proofs.GrownPackets.{load_stays, packets_stay}
 use Rattle.set_coder.proofs.OnePackets.{one_packets}
 use Rattle.set_coder.proofs.SetSizeLaws.{one_load}
-use Rattle.shown_stream.specs.Compiled.{AreSizedAs, IsCompiledTo, sent_pace}
+use Rattle.shown_stream.specs.Compiled.{Compiling, IsCompiledTo, compiling_for, sent_pace}
+use Rattle.sent_sets.specs.SentStream.{AreSizedAs}
 use Rattle.slot_stream.specs.SlotStream.{IsPiece, Piece, all_pieces, pieces_of, stream_of}
 use Rattle.slot_stream.proofs.FrontPackets.{all_are_pieces, front_stays}
 use Rattle.live_plan.specs.LiveRows.{AHEAD, slots_by}
@@ -57,14 +58,15 @@ packets_of_parts pid parts =
     stream_of pid (all_pieces (all_of parts.units) ++ all_pieces (all_of parts.more)) parts.table.slots
 
 -- a compiled stream, whose sets stand in two parts
-parts_of : (profile : ProfileName) (pid page : ℕ) (script : Script) (packets : List ℕ) (sets behind : List PlannedSet)
-    → (compiled : IsCompiledTo profile pid page script packets) → compiled.sets ≡ sets ++ behind
-    → (parts : Parts (sent_pace profile script) sets behind (IsSetLoad script) (AreSetPackets script page))
-    × (packets ≡ packets_of_parts pid parts)
-parts_of profile pid page script packets sets behind compiled parted =
-    let pace = sent_pace profile script in
-    let R = IsSetLoad script in
-    let S = AreSetPackets script page in
+parts_of : (compiling : Compiling) (packets : List ℕ) (sets behind : List PlannedSet)
+    → (compiled : IsCompiledTo compiling packets) → compiled.sets ≡ sets ++ behind
+    → (parts : Parts (sent_pace compiling.profile compiling.script) sets behind (IsSetLoad compiling.script)
+    (AreSetPackets compiling.script compiling.page))
+    × (packets ≡ packets_of_parts compiling.pid parts)
+parts_of compiling packets sets behind compiled parted =
+    let pace = sent_pace compiling.profile compiling.script in
+    let R = IsSetLoad compiling.script in
+    let S = AreSetPackets compiling.script compiling.page in
     let loads = split R sets behind compiled.loads
     (subst (λ (all : List PlannedSet). AllZip R all compiled.loads) parted compiled.planned.asked) in
     let units = split S sets behind compiled.units
@@ -93,7 +95,7 @@ parts_of profile pid page script packets sets behind compiled parted =
         table = compiled.table;
         schedule = subst Schedule loads.whole compiled.schedule;
       },
-      compiled.sent ∙ ap (λ (all : List Piece). stream_of pid all compiled.table.slots) pieces,
+      compiled.sent ∙ ap (λ (all : List Piece). stream_of compiling.pid all compiled.table.slots) pieces,
     )
 
 -- ---- two streams that begin alike
@@ -179,8 +181,8 @@ same_front pid tick pace sets behind others R R' S S' first second loads units l
 
 -- What is due for a tick of a script's packets is the front of those of a script that goes on above the horizon
 pub due_goes_on : (profile : ProfileName) (pid page : ℕ) (old new : Script) (tick : ℕ) (packets now : List ℕ)
-    → Grows (tick + AHEAD) old new → IsCompiledTo profile pid page old packets
-    → IsCompiledTo profile pid page new now
+    → Grows (tick + AHEAD) old new → IsCompiledTo (compiling_for profile pid page old) packets
+    → IsCompiledTo (compiling_for profile pid page new) now
     → (more : List ℕ)
     × (now ≡ take (188 * slots_by old.origin (sent_pace profile old).step tick) packets ++ more)
 due_goes_on profile pid page old new tick packets now grows was is =
@@ -190,13 +192,13 @@ due_goes_on profile pid page old new tick packets now grows was is =
     sets_stay horizon old new (profile_of profile) was.sets is.sets grows was.planned.plan is.planned.plan in
     let grown = first_grown horizon old new was.sets alike.front alike.rest alike.was
     (sets_have_grown horizon old new (profile_of profile) was.sets grows was.planned.plan) alike.low in
-    let first = parts_of profile pid page old packets alike.front alike.rest was alike.was in
+    let first = parts_of (compiling_for profile pid page old) packets alike.front alike.rest was alike.was in
     let Second : Pace → Type 0 = λ one. (parts : Parts one alike.front alike.others (IsSetLoad new)
     (AreSetPackets new page)) × (now ≡ packets_of_parts pid parts) in
     let same_pace : sent_pace profile new ≡ pace =
     ap (λ (origin : ℕ). pace_of origin (profile_of profile)) grows.origin in
     let second = subst Second same_pace
-    (parts_of profile pid page new now alike.front alike.others is alike.is) in
+    (parts_of (compiling_for profile pid page new) now alike.front alike.others is alike.is) in
     let loads : first.0.front ≡ second.0.front =
     same_beside (IsSetLoad old) (IsSetLoad new) (HasGrown horizon old new) alike.front first.0.front second.0.front
     (λ set load other has was is. one_load new set load other (load_stays horizon old new set load grows has was) is)

@@ -7,9 +7,9 @@ use Rattle.live_plan.proofs.DueFronts.{due_stays}
 use Rattle.live_plan.proofs.OneBatch.{due_slots as whole_slots, one_batch}
 use Rattle.live_plan.specs.LetIn.{LetIn}
 use Rattle.live_plan.specs.LiveOutcome.{BeginsBatch, Runs, let_in, none_yet, passed_over, turned_away}
-use Rattle.live_plan.specs.LiveRows.{Inserter, IsBatchOf, IsDue, IsDueBy, Taken, before_tick, last_tick, row, tick}
+use Rattle.live_plan.specs.LiveRows.{Inserter, IsBatchOf, IsDue, IsDueBy, RowOrTick, before_tick, last_tick, row, tick}
 
-pub runs_let_in : {inserter : Inserter} {pieces : List (List ℕ)} {past : List Taken} {count : ℕ} {lines : List ℕ}
+pub runs_let_in : {inserter : Inserter} {pieces : List (List ℕ)} {past : List RowOrTick} {count : ℕ} {lines : List ℕ}
     → Runs inserter pieces past count lines → LetIn inserter past
 runs_let_in none_yet = tt
 runs_let_in (passed_over piece runs none) = runs_let_in runs
@@ -17,22 +17,22 @@ runs_let_in (let_in piece cells runs one lets) = ((cells, refl, lets), runs_let_
 runs_let_in (turned_away piece fault runs some found refused) = runs_let_in runs
 
 -- what is due are whole slots
-pub due_slots : (inserter : Inserter) (past : List Taken) (due : List ℕ) → IsDue inserter past due
+pub due_slots : (inserter : Inserter) (past : List RowOrTick) (due : List ℕ) → IsDue inserter past due
     → PACKET_LENGTH * (length due / PACKET_LENGTH) ≡ length due
 due_slots inserter past due is =
     let slots = whole_slots inserter past due is in omega (arith, slots.1)
 
 -- ---- what goes on
 
-some_batch : (inserter : Inserter) (past : List Taken) → LetIn inserter past
+some_batch : (inserter : Inserter) (past : List RowOrTick) → LetIn inserter past
     → (packets : List ℕ) × IsBatchOf inserter past packets
 some_batch inserter [] are = ([], inl (refl, refl))
 some_batch inserter (taken ∷ past) ((cells, is, lets), are) =
     (lets.packets, subst (λ one. IsBatchOf inserter (one ∷ past) lets.packets) (sym is) lets.batch)
 
 -- the last tick with what came behind it and before it
-pub split_tick : (past : List Taken) (time : ℕ) → last_tick past ≡ Some time
-    → (later : List Taken) × (past ≡ later ++ tick time ∷ before_tick past)
+pub split_tick : (past : List RowOrTick) (time : ℕ) → last_tick past ≡ Some time
+    → (later : List RowOrTick) × (past ≡ later ++ tick time ∷ before_tick past)
 split_tick [] time is = absurd (some_there time is)
   where
     some_there : (time : ℕ) → None ≡ Some time → ⊥
@@ -45,7 +45,7 @@ split_tick (tick last ∷ past) time is = ([], ap (λ t. tick t ∷ past) (same_
     same_tick last time is = grind (arith, is)
 
 -- what is due begins the packets
-pub due_begins : (inserter : Inserter) (past : List Taken) (due : List ℕ) → LetIn inserter past
+pub due_begins : (inserter : Inserter) (past : List RowOrTick) (due : List ℕ) → LetIn inserter past
     → IsDue inserter past due → BeginsBatch inserter past due
 due_begins inserter past due are is = by (last_tick past) refl is
   where
@@ -64,7 +64,7 @@ due_begins inserter past due are is = by (last_tick past) refl is
         )
 
 -- bytes that begin the packets begin them, whichever packets these are
-pub batch_goes_on : (inserter : Inserter) (past : List Taken) (begun packets : List ℕ)
+pub batch_goes_on : (inserter : Inserter) (past : List RowOrTick) (begun packets : List ℕ)
     → BeginsBatch inserter past begun → IsBatchOf inserter past packets
     → (more : List ℕ) × (packets ≡ begun ++ more)
 batch_goes_on inserter past begun packets begins is =

@@ -6,7 +6,7 @@ use Rattle.std.proofs.lemmas.List.Folds.{list_any-append}
 use Rattle.sub_base.specs.Picture.{Picture}
 use Rattle.sub_base.specs.declared.profile.ProfileName.{ProfileName}
 use Rattle.bitmap_font.specs.Font.{FontValue}
-use Rattle.cue_list.specs.Past.{Past, epoch_of}
+use Rattle.cue_list.specs.Past.{ScriptPast, epoch_of}
 use Rattle.cue_list.specs.Cells.{cell_at}
 use Rattle.cue_list.specs.Records.{Record, is, kind_of, record_of}
 use Rattle.cue_list.specs.RowFaults.{fault_with}
@@ -27,7 +27,7 @@ use Rattle.set_coder.specs.GrownBlocks.{AreBlocksOf}
 use Rattle.set_coder.specs.declared.coded_picture.KeptBlocks.{KeptBlocks}
 use Rattle.shown_stream.specs.Compiled.{IsCompiledTo}
 use Rattle.live_plan.specs.LiveCalls.{HasBlocks}
-use Rattle.live_plan.specs.LiveRows.{Inserter, Taken, row, tick, early_tick, has_epoch, nearest_in, next_record, records_in, rows_in}
+use Rattle.live_plan.specs.LiveRows.{Inserter, RowOrTick, row, tick, early_tick, has_epoch, nearest_in, next_record, records_in, rows_in, compiling_by}
 use Rattle.live_plan.specs.Private.Accepting.{AreAccepted, HasLeft, IsNextRefused, IsUnsent, IsUnsentOrEarly, horizon_over, inserter_in, record_refusal}
 use Rattle.live_plan.specs.Private.Planning.{IsSendRefused, KeepsBlocks, refusal_of}
 use Rattle.script_stream.specs.LeftPackets.{ArePacketsLeft}
@@ -47,7 +47,7 @@ one_found false next found true same = same
 one_found false next found false same = same
 
 -- an epoch's row is found from either end
-found_any : (past : List Taken) → is_some (find (is kinds.Epoch) (nearest_in past)) ≡ has_epoch (records_in past)
+found_any : (past : List RowOrTick) → is_some (find (is kinds.Epoch) (nearest_in past)) ≡ has_epoch (records_in past)
 found_any [] = refl
 found_any (tick time ∷ past) = found_any past
 found_any (row cells ∷ past) =
@@ -63,10 +63,10 @@ some_map f None = refl
 some_map f (Some one) = refl
 
 -- a reader knows whether an epoch's row was let in
-pub epoch_found : (font : FontValue) (past : List Taken) (kept : Kept) → StandsFor font (rows_in past) kept
+pub epoch_found : (font : FontValue) (past : List RowOrTick) (kept : Kept) → StandsFor font (rows_in past) kept
     → is_some kept.past.epoch ≡ has_epoch (records_in past)
 epoch_found font past kept stands =
-    ap (λ (known : Past). is_some known.epoch) stands.found
+    ap (λ (known : ScriptPast). is_some known.epoch) stands.found
     ∙ some_map (epoch_of font (nearest_in past)) (find (is kinds.Epoch) (nearest_in past))
     ∙ found_any past
 
@@ -100,7 +100,7 @@ blocks_whole pictures all blocks same are =
 -- ---- what was accepted
 
 -- a row more was taken
-pub accepted_next : (old : Accepted) (reader : ScriptReader) (past : List Taken) (cells : Row) (mark : Mark)
+pub accepted_next : (old : Accepted) (reader : ScriptReader) (past : List RowOrTick) (cells : Row) (mark : Mark)
     → AreAccepted old past → TakesRow old.font (rows_in past) cells (seen_of reader) mark
     → AreAccepted (record old { reader = reader }) (row cells ∷ past)
 accepted_next old reader past cells mark are takes = record {
@@ -115,7 +115,7 @@ accepted_next old reader past cells mark are takes = record {
 }
 
 -- the same rows, with other blocks
-pub accepted_still : (old new : Accepted) (past : List Taken) → AreAccepted old past
+pub accepted_still : (old new : Accepted) (past : List RowOrTick) → AreAccepted old past
     → inserter_in new ≡ inserter_in old → seen_of new.reader ≡ seen_of old.reader
     → HasBlocks (seen_of old.reader).pictures new.blocks → AreAccepted new past
 accepted_still old new past are same seen has = record {
@@ -125,7 +125,8 @@ accepted_still old new past are same seen has = record {
 }
 
 -- the row that was taken is given up
-pub accepted_back : (old left : Accepted) (taken reader : ScriptReader) (past : List Taken) (cells : Row) (mark : Mark)
+pub accepted_back : (old left : Accepted) (taken reader : ScriptReader) (past : List RowOrTick) (cells : Row)
+    (mark : Mark)
     → AreAccepted old past → TakesRow old.font (rows_in past) cells (seen_of taken) mark
     → inserter_in left ≡ inserter_in old → seen_of left.reader ≡ seen_of taken
     → KeepsBlocks (seen_of taken).pictures old.blocks left.blocks
@@ -152,22 +153,23 @@ accepted_back old left taken reader past cells mark are takes same seen keeps ba
     }
 
 -- the first tick of a right row, as a reader has it
-pub first_is_early : (font : FontValue) (past : List Taken) (cells : Row) (kept : Kept) (first : Option ℕ)
+pub first_is_early : (font : FontValue) (past : List RowOrTick) (cells : Row) (kept : Kept) (first : Option ℕ)
     → StandsFor font (rows_in past) kept → next_fault font (rows_in past) cells ≡ None
     → ((any : FontValue) (number : ℕ) → fault_with any kept.past (record_of number cells) ≡ None
     → first ≡ first_tick kept.past (kind_of (cell_at cells 0)) cells)
     → first ≡ early_tick font past cells
 first_is_early font past cells kept first stands right is =
     is font (length (rows_in past) + 1)
-    (ap (λ (known : Past). fault_with font known (record_of (length (rows_in past) + 1) cells)) stands.found ∙ right)
-    ∙ ap (λ (known : Past). first_tick known (kind_of (cell_at cells 0)) cells) stands.found
+    (ap (λ (known : ScriptPast). fault_with font known (record_of (length (rows_in past) + 1) cells)) stands.found
+    ∙ right)
+    ∙ ap (λ (known : ScriptPast). first_tick known (kind_of (cell_at cells 0)) cells) stands.found
 
 -- ---- a script that is sent, and one that is not
 
 -- what is left of the packets of a script is so of the rows that it is of
-pub batch_left : (inserter : Inserter) (past : List Taken) (sent : ℕ) (script : Script) (left : PacketsLeft)
+pub batch_left : (inserter : Inserter) (past : List RowOrTick) (sent : ℕ) (script : Script) (left : PacketsLeft)
     → has_epoch (records_in past) ≡ true → IsScriptOf inserter.font (records_in past) script
-    → ((packets : List ℕ) × IsCompiledTo inserter.profile inserter.pid inserter.page script packets
+    → ((packets : List ℕ) × IsCompiledTo (compiling_by inserter script) packets
     × ArePacketsLeft packets sent left)
     → HasLeft inserter past sent (Some left)
 batch_left inserter past sent script left some right (packets, compiled, are) =
@@ -181,7 +183,7 @@ send_refused profile script (send.Plan fault) cause = cause
 send_refused profile script (send.Schedule place fault) cause = (place, cause)
 
 -- and so the rows that it is of have no packets
-pub rows_unsent : (inserter : Inserter) (past : List Taken) (script : Script) (fault : RowFault)
+pub rows_unsent : (inserter : Inserter) (past : List RowOrTick) (script : Script) (fault : RowFault)
     → has_epoch (records_in past) ≡ true → IsScriptOf inserter.font (records_in past) script
     → IsSendRefused inserter.profile script fault → IsUnsent inserter past fault
 rows_unsent inserter past script refused.Memory some right cause = tt
@@ -195,32 +197,37 @@ rows_unsent inserter past script (refused.Schedule fault) some right (place, cau
 
 -- ---- a record that is refused
 
-pub late_unsent : (inserter : Inserter) (past : List Taken) (first last : Option ℕ) (fault : RowFault)
+pub late_unsent : (inserter : Inserter) (past : List RowOrTick) (first last : Option ℕ) (fault : RowFault)
     → horizon_over first last ≡ None → IsUnsent inserter past fault
     → IsUnsentOrEarly inserter past first last fault
 late_unsent inserter past first last refused.Memory late cause = tt
 late_unsent inserter past first last (refused.Records count) late cause = cause
-late_unsent inserter past first last (refused.Script kind) late cause = cause
+late_unsent inserter past first last (refused.Script kind) late cause = absurd cause
 late_unsent inserter past first last (refused.Early horizon) late cause = absurd cause
-late_unsent inserter past first last (refused.Plan fault) late cause = (late, cause)
-late_unsent inserter past first last (refused.Schedule fault) late cause = (late, cause)
+late_unsent inserter past first last (refused.Plan fault) late cause = (refl, late, cause)
+late_unsent inserter past first last (refused.Schedule fault) late cause = (refl, late, cause)
+
+pub early_unsent : (inserter : Inserter) (past : List RowOrTick) (first last : Option ℕ) (horizon : ℕ)
+    → horizon_over first last ≡ Some horizon → IsUnsentOrEarly inserter past first last (refused.Early horizon)
+early_unsent inserter past first last horizon early = (refl, early)
 
 -- the record is right, and refused behind its tests
-pub next_refused : (inserter : Inserter) (past : List Taken) (cells : Row) (first last : Option ℕ) (fault : RowFault)
+pub next_refused : (inserter : Inserter) (past : List RowOrTick) (cells : Row) (first last : Option ℕ)
+    (fault : RowFault)
     → next_fault inserter.font (rows_in past) cells ≡ None → first ≡ early_tick inserter.font past cells
     → IsUnsentOrEarly inserter (row cells ∷ past) first last fault → IsNextRefused inserter past cells last fault
 next_refused inserter past cells first last refused.Memory right same cause = tt
 next_refused inserter past cells first last (refused.Records count) right same cause = cause
-next_refused inserter past cells first last (refused.Script kind) right same cause = absurd cause
-next_refused inserter past cells first last (refused.Early horizon) right same cause =
+next_refused inserter past cells first last (refused.Script kind) right same cause = right ∙ cause
+next_refused inserter past cells first last (refused.Early horizon) right same (none, cause) =
     (right, ap (λ (tick : Option ℕ). horizon_over tick last) (sym same) ∙ cause)
-next_refused inserter past cells first last (refused.Plan fault) right same (late, cause) =
+next_refused inserter past cells first last (refused.Plan fault) right same (none, late, cause) =
     (right, ap (λ (tick : Option ℕ). horizon_over tick last) (sym same) ∙ late, cause)
-next_refused inserter past cells first last (refused.Schedule fault) right same (late, cause) =
+next_refused inserter past cells first last (refused.Schedule fault) right same (none, late, cause) =
     (right, ap (λ (tick : Option ℕ). horizon_over tick last) (sym same) ∙ late, cause)
 
 -- the record is wrong
-pub next_wrong : (inserter : Inserter) (past : List Taken) (cells : Row) (last : Option ℕ) (fault : RecordFault)
+pub next_wrong : (inserter : Inserter) (past : List RowOrTick) (cells : Row) (last : Option ℕ) (fault : RecordFault)
     → IsRecordFault (next_fault inserter.font (rows_in past) cells) fault
     → IsNextRefused inserter past cells last (record_refusal fault)
 next_wrong inserter past cells last record_faults.Memory cause = tt

@@ -8,7 +8,7 @@ use Rattle.sub_base.specs.Pace.{pace_of}
 use Rattle.sub_base.specs.Profile.{profile_of}
 use Rattle.bitmap_font.specs.Font.{FontValue}
 use Rattle.cue_list.specs.CellFaults.{value_at}
-use Rattle.cue_list.specs.Past.{Past, looking_back}
+use Rattle.cue_list.specs.Past.{ScriptPast, looking_back}
 use Rattle.cue_list.specs.RowFaults.{fault_of}
 use Rattle.cue_list.specs.Rows.{Row, rows_of}
 use Rattle.cue_list.specs.SeenReaders.{seen_of}
@@ -17,7 +17,7 @@ use Rattle.cue_list.specs.TickRows.{is_not_above, is_tick_row, tick_row_fault}
 use Rattle.set_coder.specs.GrownBlocks.{AreBlocksOf}
 use Rattle.live_plan.specs.LetIn.{LetIn}
 use Rattle.live_plan.specs.LiveCalls.{AnswersPiece, HasBlocks, HasLetIn, LiveState}
-use Rattle.live_plan.specs.LiveRows.{AHEAD, Inserter, IsBatchOf, IsDue, IsDueBy, IsLetIn, IsUnplanned, IsUnscheduled, Taken, row, tick, before_tick, due_front, early_behind, early_of, early_tick, has_epoch, is_within, last_tick, nearest_in, next_record, records_in, row_fault, rows_in, slots_by, taken_as}
+use Rattle.live_plan.specs.LiveRows.{AHEAD, Inserter, IsBatchOf, IsDue, IsDueBy, IsLetIn, IsUnplanned, IsUnscheduled, RowOrTick, row, tick, before_tick, due_front, early_behind, early_of, early_tick, has_epoch, is_within, last_tick, nearest_in, next_record, records_in, row_fault, rows_in, slots_by, taken_as}
 use Rattle.live_plan.specs.Outlets.{IsOutletOf, OutletState}
 use Rattle.live_plan.specs.Private.Accepting.{AnswersRow, AreAccepted, CanSend, HasLeft, IsLive, IsNextRefused, IsNextTaken, IsRowRefused, IsSmallTick, horizon_over, inserter_in, live_of}
 use Rattle.live_plan.specs.Private.Loading.{HasRoomFor, loaded}
@@ -34,13 +34,13 @@ use Rattle.live_plan.proofs.TakenRows.{still_epoch, tick_above}
 -- ---- by the first cell
 
 -- a row that is no tick row has the tests of a record
-plain_fault : (font : FontValue) (past : List Taken) (cells : Row) → is_tick_row cells ≡ false
+plain_fault : (font : FontValue) (past : List RowOrTick) (cells : Row) → is_tick_row cells ≡ false
     → row_fault font past cells ≡ next_fault font (rows_in past) cells
 plain_fault font past cells plain =
     ap (λ (b : Bool). if b then tick_row_fault (looking_back font (nearest_in past)) (last_tick past) cells
     else fault_of font (nearest_in past) (next_record past cells)) plain
 
-plain_early : (font : FontValue) (past : List Taken) (cells : Row) (last : Option ℕ) → is_tick_row cells ≡ false
+plain_early : (font : FontValue) (past : List RowOrTick) (cells : Row) (last : Option ℕ) → is_tick_row cells ≡ false
     → early_behind font past cells last ≡ horizon_over (early_tick font past cells) last
 plain_early font past cells None plain = refl
 plain_early font past cells (Some time) plain =
@@ -51,13 +51,13 @@ plain_taken : (cells : Row) → is_tick_row cells ≡ false → taken_as cells �
 plain_taken cells plain = ap (λ (b : Bool). if b then tick (value_at cells 1) else row cells) plain
 
 -- a tick row has its own
-tick_tests : (font : FontValue) (past : List Taken) (cells : Row) → is_tick_row cells ≡ true
+tick_tests : (font : FontValue) (past : List RowOrTick) (cells : Row) → is_tick_row cells ≡ true
     → row_fault font past cells ≡ tick_row_fault (looking_back font (nearest_in past)) (last_tick past) cells
 tick_tests font past cells is =
     ap (λ (b : Bool). if b then tick_row_fault (looking_back font (nearest_in past)) (last_tick past) cells
     else fault_of font (nearest_in past) (next_record past cells)) is
 
-tick_late : (font : FontValue) (past : List Taken) (cells : Row) (last : Option ℕ) → is_tick_row cells ≡ true
+tick_late : (font : FontValue) (past : List RowOrTick) (cells : Row) (last : Option ℕ) → is_tick_row cells ≡ true
     → early_behind font past cells last ≡ None
 tick_late font past cells None is = refl
 tick_late font past cells (Some time) is =
@@ -97,13 +97,13 @@ loaded_outlet packets due more now outlet left is are goes_on =
 
 -- ---- a record
 
-still_due : (inserter : Inserter) (past : List Taken) (cells : Row) (due : List ℕ) (last : Option ℕ)
+still_due : (inserter : Inserter) (past : List RowOrTick) (cells : Row) (due : List ℕ) (last : Option ℕ)
     → IsDueBy inserter past last due → IsDueBy inserter (row cells ∷ past) last due
 still_due inserter past cells due None is = is
 still_due inserter past cells due (Some time) is = is
 
 -- the record is let in, and its batch is that of the outlet
-pub record IsNext (old : LiveState) (past : List Taken) (cells : Row) (due : List ℕ)
+pub record IsNext (old : LiveState) (past : List RowOrTick) (cells : Row) (due : List ℕ)
     (outlet : OutletState) : Type 0 where
   pub packets : List ℕ
   pub batch : IsBatchOf old.inserter (row cells ∷ past) packets
@@ -112,13 +112,13 @@ pub record IsNext (old : LiveState) (past : List Taken) (cells : Row) (due : Lis
   pub is_due : IsDue old.inserter (row cells ∷ past) due
   pub outlet_of : IsOutletOf packets due outlet
 
-no_packets : (inserter : Inserter) (past : List Taken) (cells : Row) (packets : List ℕ)
+no_packets : (inserter : Inserter) (past : List RowOrTick) (cells : Row) (packets : List ℕ)
     → has_epoch (records_in (row cells ∷ past)) ≡ false → IsBatchOf inserter past packets → packets ≡ []
 no_packets inserter past cells packets none (inl (also, nothing)) = nothing
 no_packets inserter past cells packets none (inr (some, script, right, compiled)) =
     absurd (let clash : true ≡ false = sym (still_epoch past (row cells) some) ∙ none in cc)
 
-pub next_in : (old : LiveState) (past : List Taken) (cells : Row) (left : Option PacketsLeft)
+pub next_in : (old : LiveState) (past : List RowOrTick) (cells : Row) (left : Option PacketsLeft)
     → is_tick_row cells ≡ false → (has : HasLetIn old past)
     → IsNextTaken old.inserter past cells old.last old.outlet.sent left
     → IsNext old past cells has.due (loaded old.outlet left)
@@ -133,7 +133,8 @@ next_in old past cells left plain has taken = by left taken.has_left
       late = plain_early inserter.font past cells (last_tick past) plain
           ∙ ap (horizon_over (early_tick inserter.font past cells)) (sym has.last) ∙ taken.late;
       packets = packets;
-      batch = subst (λ (one : Taken). IsBatchOf inserter (one ∷ past) packets) (sym (plain_taken cells plain)) batch;
+      batch =
+          subst (λ (one : RowOrTick). IsBatchOf inserter (one ∷ past) packets) (sym (plain_taken cells plain)) batch;
     }
 
     all_in : IsLetIn inserter past cells → LetIn inserter (row cells ∷ past)
@@ -169,7 +170,7 @@ next_in old past cells left plain has taken = by left taken.has_left
         }
 
 -- so the record is let in
-pub record_in : (old new : LiveState) (past : List Taken) (cells : Row) (left : Option PacketsLeft)
+pub record_in : (old new : LiveState) (past : List RowOrTick) (cells : Row) (left : Option PacketsLeft)
     → is_tick_row cells ≡ false → HasLetIn old past
     → IsNextTaken old.inserter past cells old.last old.outlet.sent left
     → StandsFor new.inserter.font (rows_in (row cells ∷ past)) (seen_of new.reader)
@@ -190,11 +191,11 @@ record_in old new past cells left plain has taken stands blocks same last outlet
       outlet = subst (IsOutletOf next.packets has.due) (sym outlet) next.outlet_of;
     } in (
       next.lets,
-      subst (λ (one : Taken). HasLetIn new (one ∷ past)) (sym (plain_taken cells plain)) now,
+      subst (λ (one : RowOrTick). HasLetIn new (one ∷ past)) (sym (plain_taken cells plain)) now,
     )
 
 -- the batch has all slots that are due
-pub has_room : (old : LiveState) (past : List Taken) (cells : Row) (left : Option PacketsLeft)
+pub has_room : (old : LiveState) (past : List RowOrTick) (cells : Row) (left : Option PacketsLeft)
     → is_tick_row cells ≡ false → HasLetIn old past
     → IsNextTaken old.inserter past cells old.last old.outlet.sent left → IfSome left (HasRoomFor old.outlet)
 has_room old past cells None plain has taken = tt
@@ -204,7 +205,7 @@ has_room old past cells (Some left) plain has taken = record {
 }
 
 -- why a record is refused, as a row
-pub record_refused : (old : LiveState) (past : List Taken) (cells : Row) (fault : RowFault)
+pub record_refused : (old : LiveState) (past : List RowOrTick) (cells : Row) (fault : RowFault)
     → is_tick_row cells ≡ false → HasLetIn old past → IsNextRefused old.inserter past cells old.last fault
     → IsRowRefused old.inserter past cells fault
 record_refused old past cells fault plain has cause = by fault cause
@@ -230,12 +231,12 @@ record_refused old past cells fault plain has cause = by fault cause
     by (refused.Plan fault) (right, late, cause) = (
       passes right,
       early None late,
-      subst (λ (one : Taken). IsUnplanned inserter (one ∷ past) fault) (sym (plain_taken cells plain)) cause,
+      subst (λ (one : RowOrTick). IsUnplanned inserter (one ∷ past) fault) (sym (plain_taken cells plain)) cause,
     )
     by (refused.Schedule fault) (right, late, cause) = (
       passes right,
       early None late,
-      subst (λ (one : Taken). IsUnscheduled inserter (one ∷ past) fault) (sym (plain_taken cells plain)) cause,
+      subst (λ (one : RowOrTick). IsUnscheduled inserter (one ∷ past) fault) (sym (plain_taken cells plain)) cause,
     )
 
 -- ---- a tick
@@ -257,7 +258,7 @@ abbrev step_of : Inserter → ℕ
 step_of inserter = (pace_of 0 (profile_of inserter.profile)).step
 
 -- the slots that are due for a tick above the last one are no fewer
-pub due_later : (old : LiveState) (past : List Taken) (time : ℕ) → HasLetIn old past
+pub due_later : (old : LiveState) (past : List RowOrTick) (time : ℕ) → HasLetIn old past
     → is_not_above old.last time ≡ false
     → old.outlet.due ≤ slots_by (seen_of old.reader).past.origin (step_of old.inserter) time
 due_later old past time has above = by (last_tick past) refl has.is_due
@@ -277,7 +278,7 @@ due_later old past time has above = by (last_tick past) refl has.is_due
         let parts = split_tick past last some in
         let all = slots_later inserter past (before_tick past) parts.0 last time packets parts.1 has.each batch rises in
         let origin : (seen_of old.reader).past.origin ≡ (looking_back inserter.font (nearest_in past)).origin =
-        ap (λ (known : Past). known.origin) has.stands.found in
+        ap (λ (known : ScriptPast). known.origin) has.stands.found in
         omega (
           arith,
           long,
@@ -287,7 +288,7 @@ due_later old past time has above = by (last_tick past) refl has.is_due
         )
 
 -- a tick row that passes its tests, behind what a reader knows
-pub tick_in : (old : LiveState) (past : List Taken) (cells : Row) (slots : ℕ) → is_tick_row cells ≡ true
+pub tick_in : (old : LiveState) (past : List RowOrTick) (cells : Row) (slots : ℕ) → is_tick_row cells ≡ true
     → HasLetIn old past → tick_row_fault (seen_of old.reader).past old.last cells ≡ None
     → slots ≡ slots_by (seen_of old.reader).past.origin (step_of old.inserter) (value_at cells 1)
     → IsLetIn old.inserter past cells
@@ -303,13 +304,13 @@ tick_in old past cells slots is has tests slots_are =
       right = tick_tests inserter.font past cells is
           ∙ ap (λ (last : Option ℕ). tick_row_fault (looking_back inserter.font (nearest_in past)) last cells)
           (sym has.last)
-          ∙ ap (λ (known : Past). tick_row_fault known old.last cells) (sym has.stands.found) ∙ tests;
+          ∙ ap (λ (known : ScriptPast). tick_row_fault known old.last cells) (sym has.stands.found) ∙ tests;
       late = tick_late inserter.font past cells (last_tick past) is;
       packets = has.packets;
-      batch = subst (λ (one : Taken). IsBatchOf inserter (one ∷ past) has.packets) (sym same) has.batch;
+      batch = subst (λ (one : RowOrTick). IsBatchOf inserter (one ∷ past) has.packets) (sym same) has.batch;
     } in
     let origin : (seen_of old.reader).past.origin ≡ (looking_back inserter.font (nearest_in past)).origin =
-    ap (λ (known : Past). known.origin) has.stands.found in
+    ap (λ (known : ScriptPast). known.origin) has.stands.found in
     let due : slots_by (looking_back inserter.font (nearest_in past)).origin (step_of inserter) time ≡ slots =
     sym (slots_are ∙ ap (λ (origin : ℕ). slots_by origin (step_of inserter) time) origin) in
     let front : due_front inserter past time has.packets ≡ take (188 * min slots old.outlet.count) has.packets =
@@ -334,7 +335,7 @@ tick_in old past cells slots is has tests slots_are =
       };
     } in (
       lets,
-      subst (λ (one : Taken). HasLetIn (record old {
+      subst (λ (one : RowOrTick). HasLetIn (record old {
         last = Some time;
         outlet = record old.outlet { due = min slots old.outlet.count };
       }) (one ∷ past)) (sym same) now,
@@ -352,7 +353,7 @@ answered_live old new cells answer answers same small is =
 -- a record is refused, and what was taken of it is given up
 pub record_left : (old new : Accepted) (last : Option ℕ) (outlet : OutletState) (cells : Row) (fault : RowFault)
     → is_tick_row cells ≡ false
-    → ((past : List Taken) → AreAccepted old past
+    → ((past : List RowOrTick) → AreAccepted old past
     → IsNextRefused (inserter_in old) past cells last fault × AreAccepted new past)
     → inserter_in new ≡ inserter_in old
     → AnswersRow (live_of old last outlet) (live_of new last outlet) cells (Err fault)
@@ -376,7 +377,7 @@ record_left old new last outlet cells fault plain refused same past has =
 -- a record is taken
 abbrev pub TakesNext : Accepted → Accepted → Row → Option ℕ → ℕ → Option PacketsLeft → Type 0
 TakesNext old new cells last sent left =
-    (past : List Taken) → AreAccepted old past
+    (past : List RowOrTick) → AreAccepted old past
     → IsNextTaken (inserter_in old) past cells last sent left × AreAccepted new (row cells ∷ past)
 
 pub record_taken : (old new : Accepted) (last : Option ℕ) (outlet now : OutletState) (cells : Row)
@@ -443,7 +444,7 @@ piece_answered old new piece cells (Err (refused.Schedule fault)) one answers pa
 -- ---- whether an epoch was started
 
 -- its reader knows whether one of the rows that were let in is an epoch's
-pub epoch_seen : (live other : LiveState) (past : List Taken) → live ≡ other → HasLetIn other past
+pub epoch_seen : (live other : LiveState) (past : List RowOrTick) → live ≡ other → HasLetIn other past
     → is_some (seen_of live.reader).past.epoch ≡ has_epoch (records_in past)
 epoch_seen live other past same has =
     epoch_found live.inserter.font past (seen_of live.reader)

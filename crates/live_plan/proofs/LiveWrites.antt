@@ -3,7 +3,7 @@ use Rattle.std.proofs.Common.{◌≡◌, ◌∙◌, sym, ap, subst, ℕ, ◌*◌
 use Rattle.sub_base.specs.Endpoints.{Received}
 use Rattle.sub_base.specs.declared.faults.WriteFailed.{WriteFailed}
 use Rattle.live_plan.specs.LiveCalls.{HasLetIn, LiveState, WritesDueOf, WritesRestOf}
-use Rattle.live_plan.specs.LiveRows.{Taken}
+use Rattle.live_plan.specs.LiveRows.{RowOrTick}
 use Rattle.live_plan.specs.Outlets.{Finishes, IsOutletOf, OutletState, Writes, WritesDue}
 use Rattle.live_plan.specs.Private.Accepting.{IsLive}
 use Rattle.live_plan.proofs.LetRows.{due_long}
@@ -25,7 +25,7 @@ outlet_stays packets due old new before now (Err fault) writes opened failed is 
     closed_stays packets due old new failed is
 
 -- the same was let in, with another outlet
-still : (live : LiveState) (past : List Taken) (outlet : OutletState) → (has : HasLetIn live past)
+still : (live : LiveState) (past : List RowOrTick) (outlet : OutletState) → (has : HasLetIn live past)
     → IsOutletOf has.packets has.due outlet → HasLetIn (record live { outlet = outlet }) past
 still live past outlet has is = record {
   each = has.each;

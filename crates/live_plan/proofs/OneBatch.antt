@@ -18,11 +18,11 @@ use Rattle.schedule.specs.Slots.{IsOnTime, IsSchedule}
 use Rattle.set_coder.specs.SetSegments.{AreSetPackets}
 use Rattle.set_coder.specs.SetSizes.{IsSetLoad}
 use Rattle.set_coder.proofs.GrownPackets.{load_stays, packets_stay}
-use Rattle.shown_stream.specs.Compiled.{IsCompiledTo, all_units, sent_pace}
+use Rattle.shown_stream.specs.Compiled.{IsCompiledTo, all_units, compiling_for, sent_pace}
 use Rattle.shown_stream.proofs.OneStream.{one_stream}
 use Rattle.slot_stream.specs.SlotStream.{all_pieces, slot_count}
 use Rattle.slot_stream.proofs.FrontPackets.{all_are_pieces, length-before}
-use Rattle.live_plan.specs.LiveRows.{Inserter, IsBatchOf, IsDue, IsDueBy, Taken, before_tick, due_front, last_tick, nearest_in}
+use Rattle.live_plan.specs.LiveRows.{Inserter, IsBatchOf, IsDue, IsDueBy, RowOrTick, before_tick, due_front, last_tick, nearest_in, compiling_by}
 use Rattle.live_plan.proofs.GrownScripts.{same_script_grows}
 use Rattle.live_plan.proofs.TakenRows.{listed}
 
@@ -60,7 +60,8 @@ same_plan old new profile sets width height epochs refresh plan = record {
 -- two scripts of the same records are compiled to the same packets
 same_compiled : (profile : ProfileName) (pid page : ℕ) (old new : Script) (packets : List ℕ)
     → ((horizon : ℕ) → Grows horizon old new) → new.epochs ≡ old.epochs
-    → IsCompiledTo profile pid page old packets → IsCompiledTo profile pid page new packets
+    → IsCompiledTo (compiling_for profile pid page old) packets
+    → IsCompiledTo (compiling_for profile pid page new) packets
 same_compiled profile pid page old new packets grows epochs was =
     let first = grows 0 in
     let Grown : PlannedSet → Type 0 = λ set. HasGrown set.pts old new set in
@@ -90,7 +91,7 @@ same_compiled profile pid page old new packets grows epochs was =
 -- ---- one batch
 
 -- rows have one batch
-pub one_batch : (inserter : Inserter) (past : List Taken) (packets others : List ℕ)
+pub one_batch : (inserter : Inserter) (past : List RowOrTick) (packets others : List ℕ)
     → IsBatchOf inserter past packets → IsBatchOf inserter past others → packets ≡ others
 one_batch inserter past packets others (inl (none, nothing)) (inl (also, empty)) = nothing ∙ sym empty
 one_batch inserter past packets others (inl (none, nothing)) (inr (some, script, right, compiled)) =
@@ -100,13 +101,13 @@ one_batch inserter past packets others (inr (some, script, right, compiled)) (in
 one_batch inserter past packets others (inr (some, old, right, was)) (inr (more, new, also, is)) =
     let lists = listed inserter.font past old right in
     let again = listed inserter.font past new also in
-    one_stream inserter.profile inserter.pid inserter.page new packets others
+    one_stream (compiling_by inserter new) packets others
     (same_compiled inserter.profile inserter.pid inserter.page old new packets
     (λ horizon. same_script_grows horizon inserter.font (nearest_in past) old new lists again)
     (again.epochs_are ∙ sym lists.epochs_are) was) is
 
 -- what is due is one list
-pub one_due : (inserter : Inserter) (past : List Taken) (due others : List ℕ) → IsDue inserter past due
+pub one_due : (inserter : Inserter) (past : List RowOrTick) (due others : List ℕ) → IsDue inserter past due
     → IsDue inserter past others → due ≡ others
 one_due inserter past due others first second = by (last_tick past) first second
   where
@@ -124,7 +125,7 @@ abbrev pub AreSlots : List ℕ → Type 0
 AreSlots bytes = (count : ℕ) × (length bytes ≡ 188 * count)
 
 -- a batch is of whole packets
-pub batch_slots : (inserter : Inserter) (past : List Taken) (packets : List ℕ) → IsBatchOf inserter past packets
+pub batch_slots : (inserter : Inserter) (past : List RowOrTick) (packets : List ℕ) → IsBatchOf inserter past packets
     → AreSlots packets
 batch_slots inserter past packets (inl (none, nothing)) = (0, ap (λ (xs : List ℕ). length xs) nothing)
 batch_slots inserter past packets (inr (some, script, right, compiled)) =
@@ -139,7 +140,7 @@ least : (a b : ℕ) → min (188 * a) (188 * b) ≡ 188 * min a b
 least a b = grind arith
 
 -- and so is what is due
-pub due_slots : (inserter : Inserter) (past : List Taken) (due : List ℕ) → IsDue inserter past due → AreSlots due
+pub due_slots : (inserter : Inserter) (past : List RowOrTick) (due : List ℕ) → IsDue inserter past due → AreSlots due
 due_slots inserter past due is = by (last_tick past) is
   where
     front : (n : ℕ) (packets : List ℕ) → AreSlots packets → AreSlots (take (188 * n) packets)

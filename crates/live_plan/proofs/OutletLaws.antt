@@ -6,7 +6,7 @@ use Rattle.std.proofs.lemmas.Grind.{flat_map-append}
 use Rattle.std.proofs.lemmas.List.{drop-drop, drop-take}
 use Rattle.std.proofs.lemmas.List.Elements.{All-head, All-tail}
 use Rattle.std.proofs.Math.Seq.{drop-append_seam, take-append_seam}
-use Rattle.slot_stream.specs.KeptPackets.{IsKept, Kept, kept_packet, listed_packet, packets_from}
+use Rattle.slot_stream.specs.KeptPackets.{HaveRisingSlots, SlottedPackets, kept_packet, listed_packet, packets_from}
 use Rattle.slot_stream.specs.SlotStream.{place_from}
 use Rattle.slot_stream.proofs.LaidPackets.{range-split}
 use Rattle.stream_syntax.specs.TransportPackets.{null_packet}
@@ -27,7 +27,8 @@ at_whole packets None each = refl
 at_whole packets (Some k) each = listed_whole packets k each
 
 -- so many packets have 188 times so many bytes
-length-from : (kept : Kept) (from count : ℕ) → IsKept kept → length (packets_from kept from count) ≡ 188 * count
+length-from : (kept : SlottedPackets) (from count : ℕ) → HaveRisingSlots kept
+    → length (packets_from kept from count) ≡ 188 * count
 length-from kept from zero is = refl
 length-from kept from (suc count) is =
     omega (
@@ -38,14 +39,14 @@ length-from kept from (suc count) is =
     )
 
 -- the packets at slots in two parts
-parted : (kept : Kept) (from n more : ℕ)
+parted : (kept : SlottedPackets) (from n more : ℕ)
     → packets_from kept from (n + more) ≡ packets_from kept from n ++ packets_from kept (from + n) more
 parted kept from n more =
     ap (λ (slots : List ℕ). flat_map (kept_packet kept) slots) (range-split n from more)
     ∙ flat_map-append (kept_packet kept) (range_with_len from n) (range_with_len (from + n) more)
 
 -- the first of them, and those behind
-first_packets : (kept : Kept) (from n count : ℕ) → IsKept kept → n ≤ count
+first_packets : (kept : SlottedPackets) (from n count : ℕ) → HaveRisingSlots kept → n ≤ count
     → take (188 * n) (packets_from kept from count) ≡ packets_from kept from n
 first_packets kept from n count is few =
     let front = packets_from kept from n in
@@ -56,7 +57,7 @@ first_packets kept from n count is few =
     ∙ ap (take (length front)) (parted kept from n (count - n))
     ∙ take-append_seam front (packets_from kept (from + n) (count - n))
 
-later_packets : (kept : Kept) (from n count : ℕ) → IsKept kept → n ≤ count
+later_packets : (kept : SlottedPackets) (from n count : ℕ) → HaveRisingSlots kept → n ≤ count
     → drop (188 * n) (packets_from kept from count) ≡ packets_from kept (from + n) (count - n)
 later_packets kept from n count is few =
     let front = packets_from kept from n in
@@ -73,7 +74,7 @@ later_packets kept from n count is few =
 pub record InOrder (outlet : OutletState) : Type 0 where
   pub sent : outlet.sent ≤ outlet.due
   pub due : outlet.due ≤ outlet.count
-  pub kept : IsKept outlet.kept
+  pub kept : HaveRisingSlots outlet.kept
 
 -- what is due and was not written is what is kept of these slots
 pub due_left : (packets due : List ℕ) (outlet : OutletState) → InOrder outlet → IsOutletOf packets due outlet

@@ -15,7 +15,7 @@ use Rattle.live_plan.proofs.DueRows.{batch_goes_on, due_begins, runs_let_in}
 use Rattle.live_plan.specs.LetIn.{LetIn}
 use Rattle.live_plan.specs.LiveCalls.{AnswersPiece, HasLetIn, LiveState, WritesDueOf, WritesRestOf}
 use Rattle.live_plan.specs.LiveOutcome.{BeginsBatch, Runs, is_memory, let_in, none_yet, passed_over, refused_line, turned_away}
-use Rattle.live_plan.specs.LiveRows.{Inserter, IsAnswer, IsBatchOf, IsDue, IsLetIn, IsRefusedFor, Taken, has_epoch, records_in, taken_as}
+use Rattle.live_plan.specs.LiveRows.{Inserter, IsAnswer, IsBatchOf, IsDue, IsLetIn, IsPieceRefusedFor, RowOrTick, has_epoch, records_in, taken_as}
 use Rattle.live_plan.specs.Private.Running.{Begun, HasTaken, IsFresh, IsHalted, IsPaid, IsSentNothing, IsSentWhole, begun_of, is_without_record}
 use Rattle.live_plan.specs.declared.faults.RowFault.{RowFault}
 use Rattle.live_plan.specs.declared.faults.RowFault.TheVariants as refused
@@ -39,7 +39,7 @@ nothing_more (Some x) None is = absurd is
 nothing_more (Some x) (Some y) is = is ∙ append-nil x
 
 -- a front of bytes that begin a batch begins it too
-shorter : (inserter : Inserter) (past : List Taken) (first second : List ℕ) (n : ℕ)
+shorter : (inserter : Inserter) (past : List RowOrTick) (first second : List ℕ) (n : ℕ)
     → BeginsBatch inserter past (first ++ second) → BeginsBatch inserter past (first ++ take n second)
 shorter inserter past first second n (more, batch) = (
   drop n second ++ more,
@@ -125,7 +125,7 @@ module _ (begun : Begun) (earlier further : List (List ℕ)) (piece : List ℕ) 
   -- its row was let in
   row_in : (taken : HasTaken begun earlier further out notes run)
       → IsDue begun.inserter taken.past (taken.due ++ taken.behind)
-      → (now : List Taken) × IsAnswer run.live.inserter taken.past now piece (Ok tt) × HasLetIn live now
+      → (now : List RowOrTick) × IsAnswer run.live.inserter taken.past now piece (Ok tt) × HasLetIn live now
       → HasTaken begun earlier (further ++ piece ∷ []) out notes (record { live = live; count = run.count + 1 })
   row_in taken was (now, (cells, one, lets, is), has_now) =
       let inserter = begun.inserter in
@@ -162,14 +162,14 @@ module _ (begun : Begun) (earlier further : List (List ℕ)) (piece : List ℕ) 
 
   -- what is known where its row was refused
   record IsKept (taken : HasTaken begun earlier further out notes run) (fault : RowFault) : Type 0 where
-    refused : IsRefusedFor begun.inserter taken.past piece fault
+    refused : IsPieceRefusedFor begun.inserter taken.past piece fault
     let_in : HasLetIn live taken.past
 
   kept_of : (taken : HasTaken begun earlier further out notes run) (fault : RowFault)
-      → (now : List Taken) × IsAnswer run.live.inserter taken.past now piece (Err fault) × HasLetIn live now
+      → (now : List RowOrTick) × IsAnswer run.live.inserter taken.past now piece (Err fault) × HasLetIn live now
       → IsKept taken fault
   kept_of taken fault (now, (cause, is), has) = record {
-    refused = subst (λ i. IsRefusedFor i taken.past piece fault) taken.same cause;
+    refused = subst (λ i. IsPieceRefusedFor i taken.past piece fault) taken.same cause;
     let_in = subst (HasLetIn live) is has;
   }
 
@@ -199,8 +199,8 @@ module _ (begun : Begun) (earlier further : List (List ℕ)) (piece : List ℕ) 
   }
 
   -- a piece without a record has none
-  no_rows : (past : List Taken) (fault : RowFault) → is_without_record fault ≡ true
-      → IsRefusedFor begun.inserter past piece fault → rows_of piece ≡ []
+  no_rows : (past : List RowOrTick) (fault : RowFault) → is_without_record fault ≡ true
+      → IsPieceRefusedFor begun.inserter past piece fault → rows_of piece ≡ []
   no_rows past refused.Memory is cause = absurd (let never : false ≡ true = is in cc)
   no_rows past (refused.Records count) is cause =
       nil_from_length (rows_of piece)
@@ -227,8 +227,8 @@ module _ (begun : Begun) (earlier further : List (List ℕ)) (piece : List ℕ) 
   one_there : (rows : List Row) (cells : Row) → rows ≡ cells ∷ [] → rows ≢ []
   one_there rows cells one = λ none. let never : [] ≡ cells ∷ [] = sym none ∙ one in absurd (grind (arith, never))
 
-  some_rows : (past : List Taken) (fault : RowFault) → is_memory fault ≡ false → is_without_record fault ≡ false
-      → IsRefusedFor begun.inserter past piece fault → rows_of piece ≢ []
+  some_rows : (past : List RowOrTick) (fault : RowFault) → is_memory fault ≡ false → is_without_record fault ≡ false
+      → IsPieceRefusedFor begun.inserter past piece fault → rows_of piece ≢ []
   some_rows past refused.Memory memory some cause = absurd (let never : true ≡ false = memory in cc)
   some_rows past (refused.Records count) memory some cause =
       λ none.
@@ -242,7 +242,7 @@ module _ (begun : Begun) (earlier further : List (List ℕ)) (piece : List ℕ) 
 
   -- the run with the refused row
   turned : (taken : HasTaken begun earlier further out notes run) (fault : RowFault)
-      → IsRefusedFor begun.inserter taken.past piece fault → is_memory fault ≡ false
+      → IsPieceRefusedFor begun.inserter taken.past piece fault → is_memory fault ≡ false
       → is_without_record fault ≡ false
       → Runs begun.inserter ((earlier ++ further) ++ piece ∷ []) taken.past (run.count + 1)
       (taken.lines ++ refused_line (run.count + 1) fault)

@@ -7,7 +7,7 @@ use Rattle.std.proofs.lemmas.List.Folds.{list_any-append}
 use Rattle.bitmap_font.specs.Font.{FontValue}
 use Rattle.cue_list.specs.CellFaults.{is_text_row, tick_fault, value_at}
 use Rattle.cue_list.specs.Cells.{cell_at}
-use Rattle.cue_list.specs.Past.{Past, looking_back}
+use Rattle.cue_list.specs.Past.{ScriptPast, looking_back}
 use Rattle.cue_list.specs.Records.{Record, is, kind_of, record_of, records_from}
 use Rattle.cue_list.specs.RowFaults.{fault_of, is_misplaced}
 use Rattle.cue_list.specs.Rows.{Row}
@@ -20,7 +20,7 @@ use Rattle.cue_list.specs.declared.row_kind.RowKind.TheVariants as kinds
 use Rattle.cue_list.specs.declared.script.Script.{Script}
 use Rattle.cue_list.proofs.FactLaws.{IsRightRow-from, passed, right}
 use Rattle.live_plan.specs.LetIn.{LetIn}
-use Rattle.live_plan.specs.LiveRows.{AHEAD, Inserter, IsLetIn, Taken, row, tick, early_behind, early_tick, has_epoch, is_within, last_tick, nearest_in, next_record, records_in, rows_in}
+use Rattle.live_plan.specs.LiveRows.{AHEAD, Inserter, IsLetIn, RowOrTick, row, tick, early_behind, early_tick, has_epoch, is_within, last_tick, nearest_in, next_record, records_in, rows_in}
 
 -- ---- records
 
@@ -35,7 +35,7 @@ records_more number (first ∷ rows) cells =
     ∙ ap (λ (n : ℕ). records_from (number + 1) rows ++ record_of n cells ∷ []) next)
 
 -- one row more
-pub nearest_more : (past : List Taken) (cells : Row)
+pub nearest_more : (past : List RowOrTick) (cells : Row)
     → nearest_in (row cells ∷ past) ≡ next_record past cells ∷ nearest_in past
 nearest_more past cells =
     ap reverse (records_more 1 (rows_in past) cells)
@@ -45,11 +45,11 @@ length-records : (number : ℕ) (rows : List Row) → length (records_from numbe
 length-records number [] = refl
 length-records number (cells ∷ rows) = ap suc (length-records (number + 1) rows)
 
-pub length-nearest : (past : List Taken) → length (nearest_in past) ≡ length (rows_in past)
+pub length-nearest : (past : List RowOrTick) → length (nearest_in past) ≡ length (rows_in past)
 length-nearest past = length-reverse (records_in past) ∙ length-records 1 (rows_in past)
 
 -- the script of rows is that of its records, the nearest first
-pub listed : (font : FontValue) (past : List Taken) (script : Script) → IsScriptOf font (records_in past) script
+pub listed : (font : FontValue) (past : List RowOrTick) (script : Script) → IsScriptOf font (records_in past) script
     → Lists font (nearest_in past) script.origin script.width script.height script.refresh script.epochs
     script.pictures
 listed font past script is =
@@ -58,7 +58,7 @@ listed font past script is =
     script.epochs script.pictures) (ap reverse (take_all (length records) records (omega arith))) is.lists
 
 -- an epoch's row stays among the rows
-pub still_epoch : (past : List Taken) (taken : Taken) → has_epoch (records_in past) ≡ true
+pub still_epoch : (past : List RowOrTick) (taken : RowOrTick) → has_epoch (records_in past) ≡ true
     → has_epoch (records_in (taken ∷ past)) ≡ true
 still_epoch past (tick time) some = some
 still_epoch past (row cells) some =
@@ -69,12 +69,12 @@ still_epoch past (row cells) some =
 -- ---- rows and ticks that were let in
 
 -- a row that was let in: it is no tick row
-pub record IsRowIn (inserter : Inserter) (past : List Taken) (cells : Row) : Type 0 where
+pub record IsRowIn (inserter : Inserter) (past : List RowOrTick) (cells : Row) : Type 0 where
   pub plain : is_tick_row cells ≡ false
   pub let_in : IsLetIn inserter past cells
 
 -- a tick that was let in: that of a tick row
-pub record IsTickIn (inserter : Inserter) (past : List Taken) (time : ℕ) : Type 0 where
+pub record IsTickIn (inserter : Inserter) (past : List RowOrTick) (time : ℕ) : Type 0 where
   pub cells : Row
   pub is_tick : is_tick_row cells ≡ true
   pub time_is : value_at cells 1 ≡ time
@@ -91,7 +91,7 @@ tick_of : (time : ℕ) (other : Row) (b : Bool) → is_tick_row other ≡ b
 tick_of time other true is same = (is, let equal : tick time ≡ tick (value_at other 1) = same in cc)
 tick_of time other false is same = absurd (let never : tick time ≡ row other = same in cc)
 
-pub row_let_in : (inserter : Inserter) (past : List Taken) (cells : Row) → LetIn inserter (row cells ∷ past)
+pub row_let_in : (inserter : Inserter) (past : List RowOrTick) (cells : Row) → LetIn inserter (row cells ∷ past)
     → IsRowIn inserter past cells
 row_let_in inserter past cells ((other, same, is), before) =
     let parts = row_of cells other (is_tick_row other) refl same in record {
@@ -99,14 +99,14 @@ row_let_in inserter past cells ((other, same, is), before) =
       let_in = subst (IsLetIn inserter past) parts.1 is;
     }
 
-pub tick_let_in : (inserter : Inserter) (past : List Taken) (time : ℕ) → LetIn inserter (tick time ∷ past)
+pub tick_let_in : (inserter : Inserter) (past : List RowOrTick) (time : ℕ) → LetIn inserter (tick time ∷ past)
     → IsTickIn inserter past time
 tick_let_in inserter past time ((other, same, is), before) =
     let parts = tick_of time other (is_tick_row other) refl same in
     record { cells = other; is_tick = parts.0; time_is = parts.1; let_in = is }
 
 -- a row that is let in passes the tests of a record
-pub row_right : (inserter : Inserter) (past : List Taken) (cells : Row) → IsRowIn inserter past cells
+pub row_right : (inserter : Inserter) (past : List RowOrTick) (cells : Row) → IsRowIn inserter past cells
     → fault_of inserter.font (nearest_in past) (next_record past cells) ≡ None
 row_right inserter past cells is =
     let known = looking_back inserter.font (nearest_in past) in
@@ -115,7 +115,7 @@ row_right inserter past cells is =
     ∙ is.let_in.right
 
 -- a tick that passes its tests lies above the last one
-pub tick_above : (known : Past) (last : Option ℕ) (cells : Row) → tick_row_fault known last cells ≡ None
+pub tick_above : (known : ScriptPast) (last : Option ℕ) (cells : Row) → tick_row_fault known last cells ≡ None
     → is_not_above last (value_at cells 1) ≡ false
 tick_above known last cells tests =
     let text = right (not (is_text_row cells)) faults.NotUtf8 _ tests in
@@ -125,7 +125,7 @@ tick_above known last cells tests =
     (right (is_not_above last (value_at cells 1)) faults.Order _ number.1).0
 
 -- and so does one that is let in
-pub ticks_rise : (inserter : Inserter) (past : List Taken) (time : ℕ) → IsTickIn inserter past time
+pub ticks_rise : (inserter : Inserter) (past : List RowOrTick) (time : ℕ) → IsTickIn inserter past time
     → is_not_above (last_tick past) time ≡ false
 ticks_rise inserter past time is =
     let font = inserter.font in
@@ -147,7 +147,7 @@ outside : (horizon time : ℕ) → nat_le time horizon ≡ false → horizon < t
 outside horizon time test = grind (arith, nat_tests)
 
 -- a row that is let in has a part in nothing up to the horizon
-pub row_late : (inserter : Inserter) (past : List Taken) (cells : Row) (time first : ℕ)
+pub row_late : (inserter : Inserter) (past : List RowOrTick) (cells : Row) (time first : ℕ)
     → IsRowIn inserter past cells → last_tick past ≡ Some time
     → early_tick inserter.font past cells ≡ Some first → time + AHEAD < first
 row_late inserter past cells time first is last there =
@@ -173,7 +173,7 @@ length-append-one [] cells = refl
 length-append-one (first ∷ rows) cells = omega (arith, length-append-one rows cells)
 
 -- where an epoch's row was let in, three rows were let in before it
-pub late_epoch : (inserter : Inserter) (past : List Taken) → LetIn inserter past
+pub late_epoch : (inserter : Inserter) (past : List RowOrTick) → LetIn inserter past
     → is_some (find (is kinds.Epoch) (nearest_in past)) ≡ true → 4 ≤ length (rows_in past)
 late_epoch inserter [] let_in some = absurd (let never : false ≡ true = some in cc)
 late_epoch inserter (tick time ∷ past) let_in some = late_epoch inserter past let_in.1 some
@@ -190,7 +190,7 @@ late_epoch inserter (row cells ∷ past) let_in some =
     let long = length-append-one (rows_in past) cells in
     at kind number cells past (length-nearest past) long placed there (late_epoch inserter past let_in.1)
   where
-    at : (kind : RowKind) (number : ℕ) (cells : Row) (past : List Taken)
+    at : (kind : RowKind) (number : ℕ) (cells : Row) (past : List RowOrTick)
         → length (nearest_in past) ≡ length (rows_in past)
         → length (rows_in past ++ cells ∷ []) ≡ length (rows_in past) + 1
         → is_misplaced (looking_back inserter.font (nearest_in past)) kind ≡ false

@@ -18,8 +18,8 @@ use Rattle.sub_base.specs.declared.status.Which.TheVariants as which
 use Rattle.live_plan.proofs.ReadLaws.{all_pieces-rest}
 use Rattle.live_plan.proofs.RunLaws.{paid_due, prefix_behind}
 use Rattle.live_plan.specs.FaultNames.{live_fault_name}
-use Rattle.live_plan.specs.LiveOutcome.{HasLiveCause, HasNotBegun, IsLiveDone, IsLiveEnd, IsLiveStopped, IsLiveUnread, IsTold, Runs, TellsLive, inserter_of, live_causes}
-use Rattle.live_plan.specs.LiveRows.{Inserter, IsBatchOf}
+use Rattle.live_plan.specs.LiveOutcome.{HasLiveCause, HasNotBegun, IsLiveDone, IsLiveEnd, IsLiveStopped, IsLiveUnread, IsLiveTold, Runs, TellsLive, inserter_of, live_causes}
+use Rattle.live_plan.specs.LiveRows.{Inserter, IsBatchOf, compiling_by}
 use Rattle.live_plan.specs.Pieces.{all_pieces, pieces_of, rest_only}
 use Rattle.live_plan.specs.Private.FontEnds.{IsFontEnd}
 use Rattle.live_plan.specs.Private.Running.{Begun, IsFinished, IsHalted, IsSentWhole}
@@ -154,7 +154,7 @@ module _ (begun : Begun) (first now_first second now_second : Supplied) (out not
           packets = sent.packets;
           sent = to;
           written = sent.written;
-          shown = compiled_is_shown begun.inserter.profile begun.inserter.pid begun.inserter.page script sent.packets
+          shown = compiled_is_shown (compiling_by begun.inserter script) sent.packets
               free compiled to;
         }
 
@@ -299,7 +299,7 @@ module _ (command : LiveCommand) (before now : Seen) (notes_before notes_now : R
   untroubled lines (tool.InputTooLong which.Out) end calm = absurd end
   untroubled lines (tool.InputTooLong which.Notes) end calm = absurd end
 
-  told_whole : (answer : ToolStatus LiveFault) (told : IsTold command before now notes_before notes_now answer)
+  told_whole : (answer : ToolStatus LiveFault) (told : IsLiveTold command before now notes_before notes_now answer)
       → TellsLive told.lines notes_before notes_now told.run answer
       → IsToolComplete (live_causes command before now) before now notes_before notes_now answer
   told_whole answer told (inl line) =

@@ -10,7 +10,7 @@ use Rattle.stream_syntax.specs.declared.wire.TheConstants.{PACKET_LENGTH}
 use Rattle.sub_base.specs.Endpoints.{Received}
 use Rattle.sub_base.specs.declared.faults.WriteFailed.{WriteFailed}
 use Rattle.live_plan.specs.LetIn.{LetIn}
-use Rattle.live_plan.specs.LiveRows.{Inserter, IsAnswer, IsBatchOf, IsDue, Taken, last_tick, rows_in}
+use Rattle.live_plan.specs.LiveRows.{Inserter, IsAnswer, IsBatchOf, IsDue, RowOrTick, last_tick, rows_in}
 use Rattle.live_plan.specs.Outlets.{IsOutletOf, OutletState, Writes}
 use Rattle.live_plan.specs.declared.faults.RowFault.{RowFault}
 
@@ -33,7 +33,7 @@ pub record HasBlocks (pictures : List Picture) (blocks : KeptBlocks) : Type 0 wh
 
 -- these were let in, the latest first: the reader keeps what their rows say, and the outlet has their packets, of which
 -- those up to the last tick are due
-pub record HasLetIn (live : LiveState) (past : List Taken) : Type 0 where
+pub record HasLetIn (live : LiveState) (past : List RowOrTick) : Type 0 where
   pub each : LetIn live.inserter past
   pub stands : StandsFor live.inserter.font (rows_in past) (seen_of live.reader)
   pub blocks : HasBlocks (seen_of live.reader).pictures live.blocks
@@ -47,18 +47,18 @@ pub record HasLetIn (live : LiveState) (past : List Taken) : Type 0 where
 -- a piece is answered by what was let in before it, whatever that is
 abbrev pub AnswersPiece : LiveState → LiveState → List ℕ → Result Unit RowFault → Type 0
 AnswersPiece old new piece answer =
-    (past : List Taken) → HasLetIn old past
-    → (now : List Taken) × IsAnswer old.inserter past now piece answer × HasLetIn new now
+    (past : List RowOrTick) → HasLetIn old past
+    → (now : List RowOrTick) × IsAnswer old.inserter past now piece answer × HasLetIn new now
 
 -- what is due and not written yet is written, or a prefix of it; what was let in stays
 abbrev pub WritesDueOf : LiveState → LiveState → Received → Received → Result Unit WriteFailed → Type 0
 WritesDueOf old new before now answer =
-    (past : List Taken) (due : List ℕ) → HasLetIn old past → IsDue old.inserter past due
+    (past : List RowOrTick) (due : List ℕ) → HasLetIn old past → IsDue old.inserter past due
     → Writes old.outlet before now due answer × HasLetIn new past
     × OnOk answer (PACKET_LENGTH * new.outlet.sent ≡ length due)
 
 -- the rest of the packets is written, or a prefix of it
 abbrev pub WritesRestOf : LiveState → Received → Received → Result Unit WriteFailed → Type 0
 WritesRestOf old before now answer =
-    (past : List Taken) (packets : List ℕ) → HasLetIn old past → IsBatchOf old.inserter past packets
+    (past : List RowOrTick) (packets : List ℕ) → HasLetIn old past → IsBatchOf old.inserter past packets
     → Writes old.outlet before now packets answer

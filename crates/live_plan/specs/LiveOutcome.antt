@@ -17,7 +17,7 @@ use Rattle.sub_base.specs.declared.status.ToolStatus.{ToolStatus}
 use Rattle.sub_base.specs.declared.status.ToolStatus.TheVariants as tool
 use Rattle.sub_base.specs.declared.status.Which.TheVariants as which
 use Rattle.live_plan.specs.FaultNames.{live_fault_name, row_fault_name}
-use Rattle.live_plan.specs.LiveRows.{Inserter, IsBatchOf, IsDue, IsLetIn, IsRefusedFor, Taken, has_epoch, records_in, taken_as}
+use Rattle.live_plan.specs.LiveRows.{Inserter, IsBatchOf, IsDue, IsLetIn, IsPieceRefusedFor, RowOrTick, has_epoch, records_in, taken_as, compiling_by}
 use Rattle.live_plan.specs.Pieces.{all_pieces, pieces_of}
 use Rattle.live_plan.specs.declared.faults.LiveFault.{LiveFault}
 use Rattle.live_plan.specs.declared.faults.LiveFault.TheVariants as live
@@ -43,29 +43,29 @@ is_memory (refused.Schedule fault) = false
 
 -- pieces went in one after the other: what was let in of them, the latest first, how many of them have records, and the
 -- lines of the rows that were refused
-pub data Runs (inserter : Inserter) : List (List ℕ) → List Taken → ℕ → List ℕ → Type 0 where
+pub data Runs (inserter : Inserter) : List (List ℕ) → List RowOrTick → ℕ → List ℕ → Type 0 where
   none_yet : Runs inserter [] [] 0 []
-  passed_over : {pieces : List (List ℕ)} {past : List Taken} {count : ℕ} {lines : List ℕ} (piece : List ℕ)
+  passed_over : {pieces : List (List ℕ)} {past : List RowOrTick} {count : ℕ} {lines : List ℕ} (piece : List ℕ)
       → Runs inserter pieces past count lines → rows_of piece ≡ []
       → Runs inserter (pieces ++ piece ∷ []) past count lines
-  let_in : {pieces : List (List ℕ)} {past : List Taken} {count : ℕ} {lines : List ℕ} (piece : List ℕ) (cells : Row)
+  let_in : {pieces : List (List ℕ)} {past : List RowOrTick} {count : ℕ} {lines : List ℕ} (piece : List ℕ) (cells : Row)
       → Runs inserter pieces past count lines → rows_of piece ≡ cells ∷ [] → IsLetIn inserter past cells
       → Runs inserter (pieces ++ piece ∷ []) (taken_as cells ∷ past) (count + 1) lines
-  turned_away : {pieces : List (List ℕ)} {past : List Taken} {count : ℕ} {lines : List ℕ} (piece : List ℕ)
+  turned_away : {pieces : List (List ℕ)} {past : List RowOrTick} {count : ℕ} {lines : List ℕ} (piece : List ℕ)
       (fault : RowFault) → Runs inserter pieces past count lines → rows_of piece ≢ []
-      → is_memory fault ≡ false → IsRefusedFor inserter past piece fault
+      → is_memory fault ≡ false → IsPieceRefusedFor inserter past piece fault
       → Runs inserter (pieces ++ piece ∷ []) past (count + 1) (lines ++ refused_line (count + 1) fault)
 
 -- what is due when these pieces went in
 pub record HasDue (inserter : Inserter) (pieces : List (List ℕ)) (due : List ℕ) : Type 0 where
-  pub past : List Taken
+  pub past : List RowOrTick
   pub count : ℕ
   pub lines : List ℕ
   pub runs : Runs inserter pieces past count lines
   pub is_due : IsDue inserter past due
 
 -- bytes begin the packets of what was let in
-abbrev pub BeginsBatch : Inserter → List Taken → List ℕ → Type 0
+abbrev pub BeginsBatch : Inserter → List RowOrTick → List ℕ → Type 0
 BeginsBatch inserter past bytes = (more : List ℕ) × IsBatchOf inserter past (bytes ++ more)
 
 -- ---- the end of the script
@@ -75,21 +75,21 @@ BeginsBatch inserter past bytes = (more : List ℕ) × IsBatchOf inserter past (
 pub record IsLiveDone (inserter : Inserter) (before now : Seen) (lines : List ℕ) : Type 0 where
   pub text : List ℕ
   pub read : WasRead text_limit before.first now.first text
-  pub past : List Taken
+  pub past : List RowOrTick
   pub count : ℕ
   pub runs : Runs inserter (all_pieces text) past count lines
   pub script : Script
   pub is_script : IsScriptOf inserter.font (records_in past) script
   pub packets : List ℕ
-  pub sent : IsCompiledTo inserter.profile inserter.pid inserter.page script packets
+  pub sent : IsCompiledTo (compiling_by inserter script) packets
   pub written : Wrote before.out now.out packets
-  pub shown : IsShownRightly inserter.profile inserter.pid inserter.page script sent.sets sent.loads sent.table packets
+  pub shown : IsShownRightly (compiling_by inserter script) sent.sets sent.loads sent.table packets
 
 -- the script was read to its end, and no epoch's row was let in of it; nothing was written
 pub record IsWithoutEpoch (inserter : Inserter) (before now : Seen) (lines : List ℕ) : Type 0 where
   pub text : List ℕ
   pub read : WasRead text_limit before.first now.first text
-  pub past : List Taken
+  pub past : List RowOrTick
   pub count : ℕ
   pub runs : Runs inserter (all_pieces text) past count lines
   pub none : has_epoch (records_in past) ≡ false
@@ -101,7 +101,7 @@ pub record IsWithoutEpoch (inserter : Inserter) (before now : Seen) (lines : Lis
 pub record IsLiveUnread (inserter : Inserter) (before now : Seen) (lines : List ℕ) : Type 0 where
   pub text : List ℕ
   pub given : Consumes before.first.left now.first.left text
-  pub past : List Taken
+  pub past : List RowOrTick
   pub count : ℕ
   pub runs : Runs inserter (pieces_of text).whole past count lines
   pub due : List ℕ
@@ -119,7 +119,7 @@ pub record IsLiveStopped (inserter : Inserter) (before now : Seen) (lines : List
   pub further : List (List ℕ)
   pub left : List (List ℕ)
   pub pieces : all_pieces (earlier ++ last) ≡ ((pieces_of earlier).whole ++ further) ++ left
-  pub past : List Taken
+  pub past : List RowOrTick
   pub count : ℕ
   pub runs : Runs inserter ((pieces_of earlier).whole ++ further) past count lines
   pub due : List ℕ
@@ -197,7 +197,7 @@ TellsLive lines before now run answer =
     × (answer ≡ untold_tool run))
 
 -- a run that was told of by its status' line, which is the last
-pub record IsTold (command : LiveCommand) (before now : Seen) (notes_before notes_now : Received)
+pub record IsLiveTold (command : LiveCommand) (before now : Seen) (notes_before notes_now : Received)
     (answer : ToolStatus LiveFault) : Type 0 where
   pub lines : List ℕ
   pub run : ToolStatus LiveFault
@@ -218,7 +218,7 @@ abbrev pub HasLiveCause : Option LiveCommand → Seen → Seen → Received → 
 HasLiveCause None before now notes_before notes_now answer =
     IsToolUsage before now answer × TellsTool live_fault_name notes_before notes_now answer answer
 HasLiveCause (Some command) before now notes_before notes_now answer =
-    IsTold command before now notes_before notes_now answer
+    IsLiveTold command before now notes_before notes_now answer
     ⊎ IsUntold command before now notes_before notes_now answer
 
 -- the causes of the statuses of `live`, whatever lines the notes have

@@ -1,7 +1,7 @@
 -- What is left of a batch of packets, and how much of it is due.
 use Rattle.std.specs.Prelude.{◌≡◌, ℕ, ◌-◌, ◌*◌, ◌≤◌, Bool, false, List, length, take, drop, Result, MatchResult}
 use Rattle.std.specs.Io.KnownBytes.{Appends}
-use Rattle.slot_stream.specs.KeptPackets.{Kept, packets_from}
+use Rattle.slot_stream.specs.KeptPackets.{SlottedPackets, packets_from}
 use Rattle.stream_syntax.specs.declared.wire.TheConstants.{PACKET_LENGTH}
 use Rattle.sub_base.specs.Counts.{HasRisen}
 use Rattle.sub_base.specs.Endpoints.{AppendsPrefix, Received}
@@ -10,7 +10,7 @@ use Rattle.sub_base.specs.declared.faults.WriteFailed.{WriteFailed}
 -- the packets of a batch that are kept, how many of its slots were written, how many are due, how many it has, and
 -- whether nothing more is written, since a write failed or all was
 pub record OutletState : Type 0 where
-  pub kept : Kept
+  pub kept : SlottedPackets
   pub sent : ℕ
   pub due : ℕ
   pub count : ℕ

@@ -2,7 +2,7 @@ ghost use Rattle.std.specs.Prelude.{◌≡◌, ◌∷◌, List, IfErr, IfOk, OnE
 ghost use Rattle.csv.specs.Records.{fields_of};
 ghost use Rattle.cue_list.specs.SeenReaders.{seen_of};
 ghost use Rattle.live_plan.specs.LiveCalls.{HasBlocks};
-ghost use Rattle.live_plan.specs.LiveRows.{Taken, row as row_taken};
+ghost use Rattle.live_plan.specs.LiveRows.{RowOrTick, row as row_taken};
 ghost use Rattle.live_plan.specs.Private.Accepting.{AreAccepted, CanSend, HasAccepted, HasLeft, HasLeftLate, IsNextRefused, IsNextTaken, IsSmallTick, IsUnsent, IsUnsentOrEarly, horizon_over, inserter_in, record_refusal};
 ghost use Rattle.live_plan.specs.Private.Planning.{KeepsBlocks};
 
@@ -43,10 +43,10 @@ impl Accepted {
         requires sends { CanSend (inserter_in self.old) }
         requires small { IsSmallTick last }
         requires stands { HasAccepted self.old }
-        ensures taken { IfOk result (λ left. (past : List Taken) → AreAccepted self.old past
+        ensures taken { IfOk result (λ left. (past : List RowOrTick) → AreAccepted self.old past
             → IsNextTaken (inserter_in self.old) past (fields_of row.now) last sent left
             × AreAccepted self.new (row_taken (fields_of row.now) ∷ past)) }
-        ensures refused { IfErr result (λ fault. (past : List Taken) → AreAccepted self.old past
+        ensures refused { IfErr result (λ fault. (past : List RowOrTick) → AreAccepted self.old past
             → IsNextRefused (inserter_in self.old) past (fields_of row.now) last fault
             × AreAccepted self.new past) }
         ensures inserter { inserter_in self.new ≡ inserter_in self.old }
@@ -76,12 +76,13 @@ impl Accepted {
         requires sends { CanSend (inserter_in self.old) }
         requires small { IsSmallTick last }
         requires stands { HasAccepted self.old }
-        ensures left { IfOk result (λ left. (past : List Taken) → AreAccepted self.old past
+        ensures left { IfOk result (λ left. (past : List RowOrTick) → AreAccepted self.old past
             → HasLeftLate (inserter_in self.old) past sent first last left) }
-        ensures refused { IfErr result (λ fault. (past : List Taken) → AreAccepted self.old past
+        ensures refused { IfErr result (λ fault. (past : List RowOrTick) → AreAccepted self.old past
             → IsUnsentOrEarly (inserter_in self.old) past first last fault) }
         ensures seen { seen_of self.new.reader ≡ seen_of self.old.reader }
-        ensures blocks { OnOk result (HasBlocks (seen_of self.old.reader).pictures self.new.blocks) }
+        ensures blocks { OnOk result
+            (HasBlocks (seen_of self.old.reader).pictures self.new.blocks) }
         ensures back { OnErr result
             (KeepsBlocks (seen_of self.old.reader).pictures self.old.blocks self.new.blocks) }
         ensures inserter { inserter_in self.new ≡ inserter_in self.old }
@@ -97,12 +98,13 @@ impl Accepted {
     fn left(&mut self, sent: u64) -> Result<Option<PacketsLeft>, RowFault>
         requires sends { CanSend (inserter_in self.old) }
         requires stands { HasAccepted self.old }
-        ensures left { IfOk result (λ left. (past : List Taken) → AreAccepted self.old past
+        ensures left { IfOk result (λ left. (past : List RowOrTick) → AreAccepted self.old past
             → HasLeft (inserter_in self.old) past sent left) }
-        ensures refused { IfErr result (λ fault. (past : List Taken) → AreAccepted self.old past
+        ensures refused { IfErr result (λ fault. (past : List RowOrTick) → AreAccepted self.old past
             → IsUnsent (inserter_in self.old) past fault) }
         ensures seen { seen_of self.new.reader ≡ seen_of self.old.reader }
-        ensures blocks { OnOk result (HasBlocks (seen_of self.old.reader).pictures self.new.blocks) }
+        ensures blocks { OnOk result
+            (HasBlocks (seen_of self.old.reader).pictures self.new.blocks) }
         ensures back { OnErr result
             (KeepsBlocks (seen_of self.old.reader).pictures self.old.blocks self.new.blocks) }
         ensures inserter { inserter_in self.new ≡ inserter_in self.old }

@@ -2,7 +2,7 @@ ghost use Rattle.std.specs.Prelude.{◌≡◌, ◌<◌, ◌≤◌, [], true, fal
 ghost use Rattle.csv.specs.Records.{fields_of};
 ghost use Rattle.cue_list.specs.TickRows.{is_tick_row as is_tick_row_of};
 ghost use Rattle.live_plan.specs.LiveCalls.{AnswersPiece, HasLetIn, WritesDueOf, WritesRestOf};
-ghost use Rattle.live_plan.specs.LiveRows.{Taken, has_epoch as has_epoch_in, records_in};
+ghost use Rattle.live_plan.specs.LiveRows.{RowOrTick, has_epoch as has_epoch_in, records_in};
 ghost use Rattle.live_plan.specs.Private.Accepting.{AnswersRow};
 ghost use Rattle.shown_stream.specs.Compiled.{IsCompiledFor};
 
@@ -149,7 +149,7 @@ impl Live {
 
     /// Whether an epoch's record was accepted.
     pub fn has_epoch(&self) -> bool
-        ensures { (past : List Taken) → HasLetIn self.now past
+        ensures { (past : List RowOrTick) → HasLetIn self.now past
             → result ≡ has_epoch_in (records_in past) }
     {
         self.accepted.reader.has_epoch()

@@ -2,7 +2,7 @@ ghost use Rattle.std.specs.Prelude.{◌≡◌, ◌<◌, ◌≤◌, ◌^◌, [], 
 ghost use Rattle.live_plan.specs.LiveRows.{slots_by as slots_by_of};
 ghost use Rattle.live_plan.specs.Outlets.{Finishes, WritesDue};
 ghost use Rattle.live_plan.specs.Private.Loading.{HasRoomFor, loaded};
-ghost use Rattle.slot_stream.specs.KeptPackets.{IsKept};
+ghost use Rattle.slot_stream.specs.KeptPackets.{HaveRisingSlots};
 
 use command_text::TextBuffer;
 use script_stream::PacketsLeft;
@@ -31,7 +31,7 @@ pub struct Outlet {
 impl Model for Outlet {
     ghost use Rattle.std.specs.Prelude.{◌≡◌, ◌≤◌, [], false};
     ghost use Rattle.live_plan.specs.Outlets.{OutletState};
-    ghost use Rattle.slot_stream.specs.KeptPackets.{IsKept};
+    ghost use Rattle.slot_stream.specs.KeptPackets.{HaveRisingSlots};
 
     ghost Value = { OutletState };
 
@@ -43,7 +43,7 @@ impl Model for Outlet {
       closed = o.closed;
     } };
 
-    ghost invariant = { λ o. (o.sent ≤ o.due) × (o.due ≤ o.count) × IsKept o.kept
+    ghost invariant = { λ o. (o.sent ≤ o.due) × (o.due ≤ o.count) × HaveRisingSlots o.kept
         × (o.closed ≡ false → o.buffer ≡ record { waits = []; failed = false }) };
 }
 
@@ -78,7 +78,7 @@ impl Outlet {
     /// Takes the packets of a batch with so many slots, in place of those before.
     pub fn load(&mut self, kept: KeptPackets, count: u64)
         requires enough { self.old.due ≤ count }
-        requires kept { IsKept kept }
+        requires kept { HaveRisingSlots kept }
         ensures { self.new ≡ record self.old { kept = kept; count = count } }
     {
         self.kept = kept;

@@ -13,7 +13,7 @@ use Rattle.sub_base.specs.Counts.{counted}
 use Rattle.sub_base.specs.Endpoints.{Supplied}
 use Rattle.packet_source.specs.Private.Filling.{HasRead, HasReadNothing, given_up}
 use Rattle.packet_source.specs.InHand.{InHand, whole_packets}
-use Rattle.packet_source.specs.Packets.{GoesOn, Stands, stream_length}
+use Rattle.packet_source.specs.Packets.{GivesMore, HasGivenInHand, stream_length}
 use Rattle.packet_source.proofs.GaveLaws.{Gave-whole_packets, bytes_of, length-whole_packets}
 
 -- the bytes behind the last whole packet were moved to that place
@@ -145,7 +145,8 @@ HasRead-behind was is first start kept count room after now hand now_is here fro
 
 -- the packets in hand were given up
 Stands-given_up : (before now : Supplied) (hand : InHand) (packets : List (List ℕ))
-    → Stands before now hand packets → Stands before now (given_up hand) (packets ++ whole_packets hand.bytes)
+    → HasGivenInHand before now hand packets
+    → HasGivenInHand before now (given_up hand) (packets ++ whole_packets hand.bytes)
 Stands-given_up before now hand packets stands = record {
   count =
       omega (arith, length-append packets (whole_packets hand.bytes), length-whole_packets hand.bytes, stands.count);
@@ -158,9 +159,9 @@ counted_on start had held more now one other = grind arith
 
 -- more was read
 Stands-read : (before was is : Supplied) (old new : InHand) (count : ℕ) (packets : List (List ℕ))
-    → HasRead was is old new count → Stands before was old packets → Stands before is new packets
+    → HasRead was is old new count → HasGivenInHand before was old packets → HasGivenInHand before is new packets
 Stands-read before was is old new count packets read stands =
-    subst (λ (hand : InHand). Stands before is hand packets) (sym read.hand) (record {
+    subst (λ (hand : InHand). HasGivenInHand before is hand packets) (sym read.hand) (record {
       count = stands.count;
       gave = record {
         each = stands.gave.each;
@@ -179,9 +180,9 @@ Stands-read before was is old new count packets read stands =
 
 -- nothing was read
 Stands-nothing : (before was is : Supplied) (old new : InHand) (packets : List (List ℕ))
-    → HasReadNothing was is old new → Stands before was old packets → Stands before is new packets
+    → HasReadNothing was is old new → HasGivenInHand before was old packets → HasGivenInHand before is new packets
 Stands-nothing before was is old new packets nothing stands =
-    subst (λ (hand : InHand). Stands before is hand packets) (sym nothing.hand) (record {
+    subst (λ (hand : InHand). HasGivenInHand before is hand packets) (sym nothing.hand) (record {
       count = stands.count;
       gave = record {
         each = stands.gave.each;
@@ -191,19 +192,19 @@ Stands-nothing before was is old new packets nothing stands =
     })
 
 -- the packets in hand were given up, and no more
-pub given_up_goes : (was : Supplied) (old new : InHand) → new ≡ given_up old → GoesOn was was old new
+pub given_up_goes : (was : Supplied) (old new : InHand) → new ≡ given_up old → GivesMore was was old new
 given_up_goes was old new new_is = λ before packets stands.
-    subst (λ (hand : InHand). Stands before was hand (packets ++ whole_packets old.bytes)) (sym new_is)
+    subst (λ (hand : InHand). HasGivenInHand before was hand (packets ++ whole_packets old.bytes)) (sym new_is)
     (Stands-given_up before was old packets stands)
 
 -- the packets in hand were given up, and nothing was read
 pub nothing_goes : (was is : Supplied) (old mid new : InHand) → mid ≡ given_up old
-    → HasReadNothing was is mid new → GoesOn was is old new
+    → HasReadNothing was is mid new → GivesMore was is old new
 nothing_goes was is old mid new mid_is nothing = λ before packets stands.
     Stands-nothing before was is mid new _ nothing (given_up_goes was old mid mid_is before packets stands)
 
 -- the packets in hand were given up, and more was read
 pub read_goes : (was is : Supplied) (old mid new : InHand) (count : ℕ) → mid ≡ given_up old
-    → HasRead was is mid new count → GoesOn was is old new
+    → HasRead was is mid new count → GivesMore was is old new
 read_goes was is old mid new count mid_is read = λ before packets stands.
     Stands-read before was is mid new count _ read (given_up_goes was old mid mid_is before packets stands)

@@ -25,18 +25,18 @@ pub record Gave (before now : Supplied) (packets : List (List ℕ)) (rest : List
   pub count : now.given ≡ counted before.given (stream_length packets rest)
 
 -- the source gave these packets, and then the bytes in hand
-pub record Stands (before now : Supplied) (hand : InHand) (packets : List (List ℕ)) : Type 0 where
+pub record HasGivenInHand (before now : Supplied) (hand : InHand) (packets : List (List ℕ)) : Type 0 where
   pub count : length packets ≡ hand.first
   pub gave : Gave before now packets hand.bytes
 
 -- whichever packets came before the old bytes in hand: before the new ones came these, and then the whole packets of
 -- the old bytes
-abbrev pub GoesOn : Supplied → Supplied → InHand → InHand → Type 0
-GoesOn was is old new = (before : Supplied) (packets : List (List ℕ)) → Stands before was old packets
-    → Stands before is new (packets ++ whole_packets old.bytes)
+abbrev pub GivesMore : Supplied → Supplied → InHand → InHand → Type 0
+GivesMore was is old new = (before : Supplied) (packets : List (List ℕ)) → HasGivenInHand before was old packets
+    → HasGivenInHand before is new (packets ++ whole_packets old.bytes)
 
 -- no whole packet is in hand, and the stream is within its limit
-pub record IsRest (hand : InHand) : Type 0 where
+pub record IsLastRest (hand : InHand) : Type 0 where
   pub short : length hand.bytes < PACKET_LENGTH
   pub within : read_count hand ≤ STREAM_LIMIT
 
@@ -47,6 +47,6 @@ pub record HasMore (old new : InHand) : Type 0 where
 
 -- why the source gives no packet more, and what is in hand then
 abbrev pub IsStreamEnd : Supplied → Supplied → InHand → StreamEnd → Type 0
-IsStreamEnd was is hand (end.Whole cut) = IsAtEnd is.left × (cut ≡ length hand.bytes) × IsRest hand
-IsStreamEnd was is hand end.Unread = HasReadFault was is × IsRest hand
+IsStreamEnd was is hand (end.Whole cut) = IsAtEnd is.left × (cut ≡ length hand.bytes) × IsLastRest hand
+IsStreamEnd was is hand end.Unread = HasReadFault was is × IsLastRest hand
 IsStreamEnd was is hand end.TooLong = STREAM_LIMIT < read_count hand

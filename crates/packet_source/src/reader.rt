@@ -5,7 +5,7 @@ ghost use Rattle.std.specs.Io.KnownBytes.{ReadConsumes};
 ghost use Rattle.sub_base.specs.Counts.{CountsOnOk, HasRisenPast};
 ghost use Rattle.packet_source.specs.Private.Filling.{HasRead, HasReadNothing, given_up};
 ghost use Rattle.packet_source.specs.InHand.{nothing_read, read_count, whole_packets};
-ghost use Rattle.packet_source.specs.Packets.{GoesOn, HasMore, IsStreamEnd, Stands};
+ghost use Rattle.packet_source.specs.Packets.{GivesMore, HasMore, IsStreamEnd, HasGivenInHand};
 ghost use Rattle.packet_source.specs.declared.limits.TheConstants.{STREAM_LIMIT};
 ghost use Rattle.stream_syntax.specs.declared.wire.TheConstants.{PACKET_LENGTH};
 ghost use Rattle.packet_source.specs.declared.stream_end.StreamEnd.TheVariants.{TooLong};
@@ -62,7 +62,8 @@ impl PacketSource {
     /// A reader that has read nothing yet. All its memory is taken here.
     pub fn make(alloc: Global) -> Result<PacketSource, NoMemory>
         ensures nothing { IfOk result (λ packets. packets ≡ nothing_read) }
-        ensures stands { IfOk result (λ packets. (now : Supplied) → Stands now now packets []) }
+        ensures stands { IfOk result
+            (λ packets. (now : Supplied) → HasGivenInHand now now packets []) }
     {
         Ok(PacketSource {
             first: 0,
@@ -93,7 +94,8 @@ impl PacketSource {
     pub fn fill<A: Source>(&mut self, source: &mut A) -> Result<(), StreamEnd>
         // Whichever packets the reader stood for, it stands for these and those that it had in
         // hand.
-        ensures stands { GoesOn (A.supplied source.old) (A.supplied source.new) self.old self.new }
+        ensures stands { GivesMore (A.supplied source.old) (A.supplied source.new) self.old
+            self.new }
         ensures more { OnOk result (HasMore self.old self.new) }
         ensures end { IfErr result (λ end.
             IsStreamEnd (A.supplied source.old) (A.supplied source.new) self.new end) }
@@ -101,7 +103,7 @@ impl PacketSource {
         // That the limit was passed is answered only where the source gave more, whenever the
         // stream began.
         ensures long { IsErrOf result TooLong → (before : Supplied) (packets : List (List ℕ))
-            → Stands before (A.supplied source.old) self.old packets
+            → HasGivenInHand before (A.supplied source.old) self.old packets
             → HasRisenPast STREAM_LIMIT before.given (A.supplied source.new).given }
         ensures kept { (A.supplied source.old).faults ≤ (A.supplied source.new).faults }
     {

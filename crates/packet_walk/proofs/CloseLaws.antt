@@ -15,7 +15,7 @@ use Rattle.packet_walk.specs.declared.walk.WalkEnd.TheVariants as end
 use Rattle.command_text.specs.Putting.{Buffered, IsPutOut, PutsOut}
 use Rattle.sub_base.specs.Endpoints.{Supplied, Received}
 use Rattle.command_text.specs.Putting.{Sent}
-use Rattle.packet_walk.specs.Closing.{Closes, ClosesEnd, HasEnded}
+use Rattle.packet_walk.specs.Closing.{ClosesWalk, ClosesEnd, HasEnded}
 use Rattle.packet_walk.specs.declared.told_end.ToldEnd.{ToldEnd}
 use Rattle.packet_walk.specs.declared.told_end.ToldEnd.TheVariants as told_end
 
@@ -69,7 +69,7 @@ given_at_most before now packets rest gave within =
 
 -- the sink failed
 pub closed_failed : (before now : Received) (old new : Buffered) (run : ToldEnd) → PutsOut before now old new []
-    → new.failed ≡ true → Closes before now old run told_end.Unwritten
+    → new.failed ≡ true → ClosesWalk before now old run told_end.Unwritten
 closed_failed before now old new run puts failed = λ start text. λ out.
     let ended : IsPutOut start now new (text ++ []) = puts.extends start text out in
     let front = ended.front failed in
@@ -98,7 +98,7 @@ write_fault Told is_end pid before now start out next buffer packets rest at_end
 
 ended_whole : (Told : Telling) (pid : ℕ) (before now : Supplied) (start out next : Received) (buffer : Buffered)
     (cut : ℕ) (answer : ToldEnd) → HasEnded Told pid before now start out buffer (end.Stream (stream.Whole cut))
-    → Closes out next buffer (told_end.Done cut) answer
+    → ClosesWalk out next buffer (told_end.Done cut) answer
     → IsToldEnd Told pid before now start next answer
 ended_whole Told pid before now start out next buffer cut answer ended closes =
     by_close (closes start ended.2.text ended.2.put_out)
@@ -127,7 +127,7 @@ ended_whole Told pid before now start out next buffer cut answer ended closes =
 
 ended_refused : (Told : Telling) (pid : ℕ) (before now : Supplied) (start out next : Received) (buffer : Buffered)
     (refused : Refused) (answer : ToldEnd) → HasEnded Told pid before now start out buffer (end.Refused refused)
-    → Closes out next buffer (told_end.Refused refused) answer
+    → ClosesWalk out next buffer (told_end.Refused refused) answer
     → IsToldEnd Told pid before now start next answer
 ended_refused Told pid before now start out next buffer refused answer ended closes =
     by_close (closes start ended.3.text ended.3.put_out)
@@ -158,7 +158,7 @@ ended_refused Told pid before now start out next buffer refused answer ended clo
 
 ended_unread : (Told : Telling) (pid : ℕ) (before now : Supplied) (start out next : Received) (buffer : Buffered)
     (answer : ToldEnd) → HasEnded Told pid before now start out buffer (end.Stream stream.Unread)
-    → Closes out next buffer told_end.Unread answer
+    → ClosesWalk out next buffer told_end.Unread answer
     → IsToldEnd Told pid before now start next answer
 ended_unread Told pid before now start out next buffer answer ended closes =
     by_close (closes start ended.2.text ended.2.put_out)

@@ -3,7 +3,7 @@ use Rattle.std.proofs.Common.{◌≡◌, ◌∙◌, ℕ, ◌+◌, ◌*◌, ◌<�
 use Rattle.std.proofs.KnownBytes.{Appends-nil}
 use Rattle.std.proofs.lemmas.List.Elements.{All-nil}
 use Rattle.packet_source.specs.InHand.{InHand, nothing_read, read_count, rest_of, whole_packets}
-use Rattle.packet_source.specs.Packets.{GoesOn, IsRest, IsStreamEnd, IsWithin, Stands}
+use Rattle.packet_source.specs.Packets.{GivesMore, IsLastRest, IsStreamEnd, IsWithin, HasGivenInHand}
 use Rattle.packet_source.specs.declared.limits.TheConstants.{STREAM_LIMIT}
 use Rattle.packet_source.specs.declared.stream_end.StreamEnd.{StreamEnd}
 use Rattle.packet_source.specs.declared.stream_end.StreamEnd.TheVariants as stream
@@ -30,7 +30,7 @@ few_in_hand hand first packets first_is are within =
     omega (arith, first_is, ap (λ (l : List (List ℕ)). length l) are, length-whole_packets hand.bytes, within)
 
 -- as many packets as were read before those in hand, and the bytes in hand, are within the limit
-within_hand : (before now : Supplied) (hand : InHand) (packets : List (List ℕ)) → Stands before now hand packets
+within_hand : (before now : Supplied) (hand : InHand) (packets : List (List ℕ)) → HasGivenInHand before now hand packets
     → read_count hand ≤ STREAM_LIMIT → IsWithin packets hand.bytes
 within_hand before now hand packets stands within =
     subst (λ (n : ℕ). 188 * n + length hand.bytes ≤ STREAM_LIMIT) (sym stands.count) within
@@ -40,21 +40,21 @@ module _ {Teller : Type 0} (stands : Teller → List (List ℕ) → List ℕ →
   pub record HasCome (pid : ℕ) (before now : Supplied) (start out : Received) (teller : Teller) (buffer : Buffered)
       (hand : InHand) : Type 0 where
     pub packets : List (List ℕ)
-    pub source : Stands before now hand packets
+    pub source : HasGivenInHand before now hand packets
     pub told : HasTold stands pid start out teller buffer packets
 
   -- the text of the packets in hand was put out, too
   pub record HasWalked (pid : ℕ) (before now : Supplied) (start out : Received) (teller : Teller) (buffer : Buffered)
       (hand : InHand) : Type 0 where
     pub packets : List (List ℕ)
-    pub source : Stands before now hand packets
+    pub source : HasGivenInHand before now hand packets
     pub told : HasTold stands pid start out teller buffer (packets ++ whole_packets hand.bytes)
 
   -- before the first read
   pub nothing_walked : (pid : ℕ) (before : Supplied) (start : Received) (teller : Teller) (buffer : Buffered)
       (hand : InHand) → stands teller [] []
       → buffer ≡ record { waits = []; failed = false } → hand ≡ nothing_read
-      → ((now : Supplied) → Stands now now hand [])
+      → ((now : Supplied) → HasGivenInHand now now hand [])
       → HasWalked pid before before start start teller buffer hand
   nothing_walked pid before start teller buffer hand told empty nothing source = record {
     packets = [];
@@ -79,7 +79,7 @@ module _ {Teller : Type 0} (stands : Teller → List (List ℕ) → List ℕ →
   -- the packets in hand were given up, and more was read
   pub walked_on : (pid : ℕ) (before mid now : Supplied) (start out : Received) (teller : Teller) (buffer : Buffered)
       (old new : InHand) → HasWalked pid before mid start out teller buffer old
-      → GoesOn mid now old new → HasCome pid before now start out teller buffer new
+      → GivesMore mid now old new → HasCome pid before now start out teller buffer new
   walked_on pid before mid now start out teller buffer old new walked goes = record {
     packets = walked.packets ++ whole_packets old.bytes;
     source = goes before walked.packets walked.source;
@@ -124,9 +124,9 @@ module _ {Teller : Type 0} (stands : Teller → List (List ℕ) → List ℕ →
   -- the source gives no packet more
   pub come_to_end : (pid : ℕ) (before mid now : Supplied) (start out : Received) (teller : Teller) (buffer : Buffered)
       (old new : InHand) (ended : StreamEnd) (walked : HasWalked pid before mid start out teller buffer old)
-      → GoesOn mid now old new → before.faults ≤ mid.faults → IsStreamEnd mid now new ended
+      → GivesMore mid now old new → before.faults ≤ mid.faults → IsStreamEnd mid now new ended
       → (ended ≡ stream.TooLong → (start : Supplied) (packets : List (List ℕ))
-      → Stands start mid old packets → HasRisenPast STREAM_LIMIT start.given now.given)
+      → HasGivenInHand start mid old packets → HasRisenPast STREAM_LIMIT start.given now.given)
       → IsEnd (stands teller) pid before now start out buffer (end.Stream ended)
   come_to_end pid before mid now start out teller buffer old new ended walked goes kept is long = by ended is long
     where
@@ -136,12 +136,12 @@ module _ {Teller : Type 0} (stands : Teller → List (List ℕ) → List ℕ →
       told : IsTold (stands teller) pid before now start out buffer come.packets new.bytes
       told = told_before pid before now start out teller buffer new come
 
-      within : IsRest new → IsWithin come.packets new.bytes
+      within : IsLastRest new → IsWithin come.packets new.bytes
       within rest = within_hand before now new come.packets come.source rest.within
 
       by : (ended : StreamEnd) → IsStreamEnd mid now new ended
           → (ended ≡ stream.TooLong → (start : Supplied) (packets : List (List ℕ))
-          → Stands start mid old packets → HasRisenPast STREAM_LIMIT start.given now.given)
+          → HasGivenInHand start mid old packets → HasRisenPast STREAM_LIMIT start.given now.given)
           → IsEnd (stands teller) pid before now start out buffer (end.Stream ended)
       by (stream.Whole cut) is long = (come.packets, new.bytes, told, within is.2, is.2.short, is.1, is.0)
       by stream.Unread is long = (

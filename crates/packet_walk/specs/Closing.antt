@@ -28,27 +28,28 @@ HasEnded Told pid before now start out buffer ended =
 
 -- whatever was told by the end of a walk, the text of its packets is put out, up to the end of the stream where it was
 -- read whole
-abbrev pub Finishes : (List (List ℕ) → List ℕ → Type 0) → Telling → Received → Received → Buffered
+abbrev pub FinishesTold : (List (List ℕ) → List ℕ → Type 0) → Telling → Received → Received → Buffered
     → Buffered → WalkEnd
     → Type 0
-Finishes Before Told out next buffer new ended = (pid : ℕ) (before now : Supplied) (start : Received)
+FinishesTold Before Told out next buffer new ended = (pid : ℕ) (before now : Supplied) (start : Received)
     → IsEnd Before pid before now start out buffer ended → HasEnded Told pid before now start next new ended
 
 -- the text that was put out since a start was written whole, and the answer is that of the run; or the sink has
 -- received a front of it, and its count of faults rose
-abbrev pub Closes : Received → Received → Buffered → ToldEnd → ToldEnd → Type 0
-Closes before now buffer run answer = (start : Received) (text : List ℕ) → IsPutOut start before buffer text
+abbrev pub ClosesWalk : Received → Received → Buffered → ToldEnd → ToldEnd → Type 0
+ClosesWalk before now buffer run answer = (start : Received) (text : List ℕ) → IsPutOut start before buffer text
     → ((answer ≡ run) × Appends start.written now.written text)
     ⊎ ((answer ≡ told_end.Unwritten) × AppendsPrefix start.written now.written text
     × HasRisen start.faults now.faults)
 
 -- what is answered by the end of the walk, once the text that waits is written
 abbrev pub ClosesEnd : Received → Received → Buffered → WalkEnd → ToldEnd → Type 0
-ClosesEnd before now buffer (end.Stream (stream.Whole cut)) answer = Closes before now buffer (told_end.Done cut) answer
+ClosesEnd before now buffer (end.Stream (stream.Whole cut)) answer =
+    ClosesWalk before now buffer (told_end.Done cut) answer
 ClosesEnd before now buffer (end.Stream stream.Unread) answer =
-    Closes before now buffer told_end.Unread answer
+    ClosesWalk before now buffer told_end.Unread answer
 ClosesEnd before now buffer (end.Stream stream.TooLong) answer =
     (answer ≡ told_end.TooLong) × (now ≡ before)
 ClosesEnd before now buffer (end.Refused refused) answer =
-    Closes before now buffer (told_end.Refused refused) answer
+    ClosesWalk before now buffer (told_end.Refused refused) answer
 ClosesEnd before now buffer end.Unwritten answer = (answer ≡ told_end.Unwritten) × (now ≡ before)

@@ -95,6 +95,6 @@ pub record IsRightStream (pid : ℕ) (before now : Supplied) : Type 0 where
       → packet_fault pid packet ≡ Some fault → ⊥
 
 -- a stream that was read whole, within its limit, and of which no packet is refused
-pub record IsReadable (pid : ℕ) (before now : Supplied) : Type 0 where
+pub record IsReadableStream (pid : ℕ) (before now : Supplied) : Type 0 where
   pub read : HasRisen before.faults now.faults → ⊥
   pub right : IsRightStream pid before now

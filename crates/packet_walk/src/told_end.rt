@@ -1,5 +1,5 @@
 ghost use Rattle.std.specs.Prelude.{◌≡◌};
-ghost use Rattle.packet_walk.specs.Closing.{Closes, ClosesEnd, is_whole_end};
+ghost use Rattle.packet_walk.specs.Closing.{ClosesWalk, ClosesEnd, is_whole_end};
 ghost use Rattle.packet_walk.specs.declared.walk.WalkEnd.TheVariants.{Stream};
 
 use crate::walk::{Refused, WalkEnd};
@@ -56,7 +56,7 @@ fn close_stream<K: Sink>(out: &mut K, buffer: &mut TextBuffer, end: StreamEnd) -
 
 /// Writes the text that waits, and answers this end, or that the output could not be written.
 fn write_rest<K: Sink>(out: &mut K, buffer: &mut TextBuffer, end: ToldEnd) -> ToldEnd
-    ensures { Closes
+    ensures { ClosesWalk
         (K.received out.old)
         (K.received out.new)
         buffer.old end result }

@@ -1,7 +1,7 @@
 ghost use Rattle.std.specs.Prelude.{◌≡◌, ◌+◌, ◌<◌, ◌≤◌, ℕ, false, List, [], length, take};
 ghost use Rattle.std.specs.Prelude.{slice_index_or, Some, IfErr, OnOk};
 ghost use Rattle.packet_source.specs.InHand.{nothing_read};
-ghost use Rattle.packet_source.specs.Packets.{Stands};
+ghost use Rattle.packet_source.specs.Packets.{HasGivenInHand};
 ghost use Rattle.packet_source.specs.declared.limits.TheConstants.{STREAM_LIMIT};
 ghost use Rattle.stream_syntax.specs.TransportPackets.{packet_fault};
 ghost use Rattle.sub_base.specs.Endpoints.{Supplied};
@@ -46,7 +46,7 @@ pub fn walk_packets<T: PacketTeller, A: Source, K: Sink>(
     requires buffer { buffer.old ≡ record { waits = []; failed = false } }
     requires stands { T.stands teller.old [] [] }
     requires nothing { packets.old ≡ nothing_read }
-    requires source { (now : Supplied) → Stands now now packets.old [] }
+    requires source { (now : Supplied) → HasGivenInHand now now packets.old [] }
     ensures pid { T.pid teller.new ≡ T.pid teller.old }
     ensures same { T.kept teller.new ≡ T.kept teller.old }
     ensures end { IsEnd (T.stands teller.new) (T.pid teller.old)

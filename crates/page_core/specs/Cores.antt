@@ -7,7 +7,7 @@ use Rattle.segments.specs.Contents.{display_value}
 use Rattle.segments.specs.declared.display.DisplaySeg.{DisplaySeg}
 use Rattle.page_core.specs.Composition.{Composition}
 use Rattle.page_core.specs.Private.Marks.{AreMarked}
-use Rattle.page_core.specs.Memory.{Memory, IsDisplayOf, IsWhole}
+use Rattle.page_core.specs.Memory.{Memory, IsDisplayOf, IsWholeMemory}
 use Rattle.page_core.specs.declared.marks.Mark.{Mark}
 
 -- the memory of a core
@@ -30,7 +30,7 @@ memory_of profile page anchor last known time_out display composition inks store
 -- table entries are set, and none of the others is counted; its nodes can be counted together with those that a set
 -- needs; and its display is one of the profile
 pub record IsCore (memory : Memory) (marks : List Mark) : Type 0 where
-  pub whole : IsWhole memory
+  pub whole : IsWholeMemory memory
   pub anchored : memory.anchor < 2 ^ 34
   pub timed : IfSome memory.last (λ time. time < 2 ^ 62)
   pub marked : AreMarked memory.composition.set_entries [] marks

@@ -21,7 +21,7 @@ abbrev pub AreContents : List Content → List ℕ → Type 0
 AreContents set bytes = AreRead (map read set) bytes
 
 -- what is cut off at the front of bytes is the frame of a segment that is read so; behind it come these bytes
-pub record IsCutOff (reading : Reading) (rest : List ℕ) (front : Front) : Type 0 where
+pub record IsFrameCutOff (reading : Reading) (rest : List ℕ) (front : Front) : Type 0 where
   pub segment : List ℕ
   pub is_reading : IsReading segment reading
   pub framed : IsFrameOf segment front.frame

@@ -6,4 +6,5 @@ pub mod Losses
 pub mod Coloured
 pub mod Rows
 pub mod Scenes
+pub mod Edges
 pub mod Private

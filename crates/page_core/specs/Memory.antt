@@ -25,7 +25,7 @@ use Rattle.sub_base.specs.Lists.{first_given}
 use Rattle.decoder_model.specs.Taken.{Taken, segments_of, taken_of, taken_region, last_clut, version_of_clut}
 use Rattle.decoder_model.specs.Verdict.{known_epoch}
 use Rattle.pixel_store.specs.Regions.{Regions, region_at, code_of, no_regions}
-use Rattle.pixel_store.specs.Regions.{Region as StoredRegion}
+use Rattle.pixel_store.specs.Regions.{StoredRegion}
 use Rattle.page_core.specs.Composition.{AreIdsApart, Composition, KeptListing, KeptRegion, KeptClut, region_in, clut_in, taken_nodes, no_composition}
 
 -- ---- what is kept
@@ -84,7 +84,7 @@ abbrev pub IsInTable : TableEntry → Type 0
 IsInTable entry = (entry.clut < 256) × (entry.entry < code_count entry.depth)
 
 -- a region of the store has the sides and the depth of a head
-pub record HasSides (head : RegionHead) (region : StoredRegion) : Type 0 where
+pub record HasSidesOf (head : RegionHead) (region : StoredRegion) : Type 0 where
   pub width : region.width ≡ head.width
   pub height : region.height ≡ head.height
   pub depth : region.depth ≡ head.depth
@@ -99,13 +99,13 @@ pub record AreInks (set : List TableEntry) (inks : List Colour) : Type 0 where
 -- what holds of the memory of every receiver: its nodes and bytes are those of the profile; the regions have the slots
 -- of the store in order, each with its sides, and ids that are bytes, no two of them the same; and its colours are the
 -- default ones where nothing is set
-pub record IsWhole (memory : Memory) : Type 0 where
+pub record IsWholeMemory (memory : Memory) : Type 0 where
   pub nodes : memory.composition.size ≡ memory.profile.nodes
   pub counted : memory.composition.free + taken_nodes memory.composition ≡ memory.composition.size
   pub size : memory.store.size ≡ memory.profile.pixels
   pub slots : map (λ (kept : KeptRegion). kept.slot) memory.composition.regions
       ≡ range_with_len 0 (length memory.store.regions)
-  pub sides : All (λ (kept : KeptRegion). HasSides kept.head (region_at memory.store kept.slot))
+  pub sides : All (λ (kept : KeptRegion). HasSidesOf kept.head (region_at memory.store kept.slot))
       memory.composition.regions
   pub cluts : All (λ (kept : KeptRegion). kept.head.clut < 256) memory.composition.regions
   pub inks : AreInks memory.composition.set_entries memory.inks
@@ -152,7 +152,7 @@ abbrev pub head_of : Region → RegionHead
 head_of region = region.head
 
 -- the memory has what these segments of an epoch give, the latest first; those that are not taken are among them
-pub record Holds (segments : List Content) (memory : Memory) : Type 0 where
+pub record HoldsSegments (segments : List Content) (memory : Memory) : Type 0 where
   pub display : memory.display ≡ display_in_force segments
   -- the regions, in the order of their first segments, and each by its last taken one
   pub region_ids : map (λ (kept : KeptRegion). kept.head.region) memory.composition.regions
@@ -189,10 +189,10 @@ abbrev pub known_segments : Profile → ℕ → List (Delivery Reading) → List
 known_segments profile anchor past = segments_of (unwrap_or (known_epoch profile anchor past) [])
 
 -- the memory is that after this past, the latest first, of sets, refused sets and losses
-pub record Stands (past : List (Delivery Reading)) (memory : Memory) : Type 0 where
+pub record IsMemoryAfter (past : List (Delivery Reading)) (memory : Memory) : Type 0 where
   pub last : memory.last ≡ last_time memory.anchor past
   pub known : memory.known ≡ is_some (known_epoch memory.profile memory.anchor past)
-  pub holds : Holds (known_segments memory.profile memory.anchor past) memory
+  pub holds : HoldsSegments (known_segments memory.profile memory.anchor past) memory
   -- the page is that of the last set of the epoch
   pub time_out : (set : List Content) (before : List (List Content)) (page : Page) →
       known_epoch memory.profile memory.anchor past ≡ Some (set ∷ before) → page_in_set set ≡ Some page

@@ -12,7 +12,7 @@ use Rattle.stream_syntax.specs.declared.display.Window.{Window}
 use Rattle.stream_syntax.specs.declared.page.PageEntry.{PageEntry}
 use Rattle.stream_syntax.specs.declared.region.RegionHead.{RegionHead}
 use Rattle.decoder_model.specs.Shown.{window_of, is_in_window}
-use Rattle.pixel_store.specs.Regions.{Region, Regions, region_at, IsPackedRow, code_of as code_in_region}
+use Rattle.pixel_store.specs.Regions.{StoredRegion, Regions, region_at, IsPackedRow, code_of as code_in_region}
 use Rattle.page_core.specs.Coloured.{colour_of}
 use Rattle.page_core.specs.Composition.{Composition, KeptRegion, region_in}
 use Rattle.page_core.specs.Memory.{Memory, code_in, ink_in}
@@ -66,14 +66,14 @@ IsDrawnOver window y given old new =
 
 -- the colour that a region with these colours of its CLUT gives a place, where its corner is there and it covers the
 -- place
-abbrev pub colour_by_region : RegionHead → Region → List Colour → ℕ → ℕ → ℕ → ℕ → Option Colour
+abbrev pub colour_by_region : RegionHead → StoredRegion → List Colour → ℕ → ℕ → ℕ → ℕ → Option Colour
 colour_by_region head region colours left top x y =
     if is_inside left top head.width head.height x y
     then Some (colour_of colours (code_in_region region (x - left) (y - top))) else None
 
 -- the places of a row from one up to another have the colours of a line of a region, from its first column on, and all
 -- others are as they were
-pub record IsLineDrawn (region : Region) (line : ℕ) (colours : List Colour) (from to : ℕ)
+pub record IsLineDrawn (region : StoredRegion) (line : ℕ) (colours : List Colour) (from to : ℕ)
     (old new : List Colour) : Type 0 where
   pub covered : (x : ℕ) → from ≤ x → x < to
       → colour_of new x ≡ colour_of colours (code_in_region region (x - from) line)

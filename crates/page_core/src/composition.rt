@@ -21,6 +21,7 @@ mod walk;
 use crate::lists::pop_front;
 use crate::node::{Node, RegionNode, TablePlace};
 use comp_pool::{NodeId, Pool};
+pub use lookup::Entries;
 use std::alloc::Global;
 use std::marker::Model;
 use stream_syntax::PageEntry;

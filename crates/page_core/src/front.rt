@@ -5,7 +5,7 @@ ghost use Rattle.decoder_model.specs.Readings.{Reading, IsReading};
 ghost use Rattle.decoder_model.specs.Received.{BeginsWith};
 ghost use Rattle.segments.specs.Contents.{contents};
 ghost use Rattle.segments.specs.Framing.{IsFrame, IsFrameOf};
-ghost use Rattle.page_core.specs.Handed.{IsCutOff, Matches};
+ghost use Rattle.page_core.specs.Handed.{IsFrameCutOff, Matches};
 ghost use Rattle.page_core.specs.Private.RegionSteps.{IsRightValue};
 
 use segments::{Frame, Segment, SegmentFault, read_frame};
@@ -21,7 +21,7 @@ pub(crate) struct Front<'a> {
 /// segment is there.
 pub(crate) fn cut_front(bytes: &[u8]) -> Option<Front<'_>>
     ensures cut { (reading : Reading) (rest : List ℕ) → BeginsWith bytes.now reading rest
-        → IsSomeAnd result (IsCutOff reading rest) }
+        → IsSomeAnd result (IsFrameCutOff reading rest) }
     ensures framed { IfSome result (λ front. IsFrame front.frame) }
     ensures shorter { IfSome result (λ front. length front.rest.now < length bytes.now) }
 {

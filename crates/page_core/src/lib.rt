@@ -8,6 +8,7 @@ mod cluts;
 mod colours;
 mod composition;
 mod counting;
+mod edges;
 mod epoch;
 mod forget;
 mod front;
@@ -29,6 +30,7 @@ mod taking;
 mod times;
 mod walking;
 
+pub use composition::Entries;
 pub use decoder_model::{SetEnd, SetFault};
 pub use laws::behind_a_loss;
 pub use memory::{Core, Scene};

@@ -18,7 +18,7 @@ ghost use Rattle.page_core.specs.Private.Sound.{IsSound};
 ghost use Rattle.page_core.specs.Private.Accepted.{IsBefore, IsBegun, IsEarly, IsTakenEarly};
 ghost use Rattle.page_core.specs.Private.Epochs.{IsStart};
 ghost use Rattle.page_core.specs.declared.epoch.Start.TheVariants.{Waits};
-ghost use Rattle.page_core.specs.Memory.{Stands, IsForgotten, IsSameReceiver, Forgets};
+ghost use Rattle.page_core.specs.Memory.{IsMemoryAfter, IsForgotten, IsSameReceiver, Forgets};
 
 mod cluts;
 mod counting;
@@ -84,7 +84,7 @@ impl Core {
     pub fn make(alloc: Global, profile: &Profile, page: u16, anchor: u64) -> Result<Core, NoMemory>
         requires anchor { anchor < 2 ^ 34 }
         requires nodes { profile.now.nodes < 2 ^ 31 }
-        ensures stands { IfOk result (Stands []) }
+        ensures stands { IfOk result (IsMemoryAfter []) }
         ensures profile { IfOk result (λ core. core.profile ≡ profile.now) }
         ensures page { IfOk result (λ core. core.page ≡ page) }
         ensures anchor { IfOk result (λ core. core.anchor ≡ anchor) }
@@ -107,8 +107,8 @@ impl Core {
     /// Something was lost between two sets: no epoch is known, and all nodes and pixel bytes are
     /// free.
     pub fn lose(&mut self)
-        ensures stands { (past : List (Delivery Reading)) → Stands past self.old
-            → Stands (lost ∷ past) self.new }
+        ensures stands { (past : List (Delivery Reading)) → IsMemoryAfter past self.old
+            → IsMemoryAfter (lost ∷ past) self.new }
         ensures forgotten { IsForgotten self.new }
         ensures same { IsSameReceiver self.old self.new }
     {
@@ -119,9 +119,9 @@ impl Core {
     /// that fault, and the core waits.
     pub fn refuse_set(&mut self, pts: u64, fault: SetFault) -> SetEnd
         requires { pts < 2 ^ 33 }
-        ensures stands { (past : List (Delivery Reading)) (size : ℕ) → Stands past self.old
-            → Stands (refused pts size fault ∷ past) self.new }
-        ensures answer { (past : List (Delivery Reading)) (size : ℕ) → Stands past self.old
+        ensures stands { (past : List (Delivery Reading)) (size : ℕ) → IsMemoryAfter past self.old
+            → IsMemoryAfter (refused pts size fault ∷ past) self.new }
+        ensures answer { (past : List (Delivery Reading)) (size : ℕ) → IsMemoryAfter past self.old
             → Some result
             ≡ verdict_of self.old.profile self.old.anchor past (refused pts size fault) }
         ensures known { result ≡ Shown → self.new.known ≡ true }
@@ -163,7 +163,7 @@ impl Core {
     pub fn lift(&self, pts: u64) -> Option<u64>
         requires { pts < 2 ^ 33 }
         ensures lifted { (past : List (Delivery Reading)) (size : ℕ) (readings : List Reading)
-            → Stands past self.now
+            → IsMemoryAfter past self.now
             → result ≡ lifted_time self.now.anchor past (whole pts size readings) }
         ensures bounded { IfSome result (λ time. time < 2 ^ 62) }
     {
@@ -173,7 +173,7 @@ impl Core {
     /// How many nodes of the composition memory are free.
     pub fn free_nodes(&self) -> u32
         ensures value { result ≡ self.now.composition.free }
-        ensures free { (past : List (Delivery Reading)) → Stands past self.now
+        ensures free { (past : List (Delivery Reading)) → IsMemoryAfter past self.now
             → result ≡ free_nodes_after self.now.profile self.now.anchor past }
     {
         self.composition.free()
@@ -182,7 +182,7 @@ impl Core {
     /// How many bytes of pixels are free.
     pub fn free_pixels(&self) -> u64
         ensures value { result ≡ self.now.store.free }
-        ensures free { (past : List (Delivery Reading)) → Stands past self.now
+        ensures free { (past : List (Delivery Reading)) → IsMemoryAfter past self.now
             → result ≡ free_pixels_after self.now.profile self.now.anchor past }
     {
         self.store.free()
@@ -193,7 +193,7 @@ impl Core {
     fn take_early<'a>(&mut self, time: u64, bytes: &'a [u8]) -> Result<Accepted<'a>, SetEnd>
         requires { time < 2 ^ 62 }
         ensures taken { (past : List (Delivery Reading)) (pts size : ℕ) (readings : List Reading)
-            → Stands past self.old
+            → IsMemoryAfter past self.old
             → lifted_time self.old.anchor past (whole pts size readings) ≡ Some time
             → AreRead readings bytes.now
             → IsTakenEarly self.old past pts size readings bytes.now self.new result }
@@ -243,12 +243,12 @@ impl Core {
         ensures last { self.new.last ≡ Some time }
         ensures stands { (past : List (Delivery Reading)) (pts size : ℕ) (readings : List Reading)
             (end : Verdict)
-            → Stands past self.old
+            → IsMemoryAfter past self.old
             → lifted_time self.old.anchor past (whole pts size readings) ≡ Some time
             → verdict_on_kept self.old.profile (sets_since self.old.profile self.old.anchor past)
             readings ≡ end
             → IsEarly end
-            → Stands (whole pts size readings ∷ past) self.new }
+            → IsMemoryAfter (whole pts size readings ∷ past) self.new }
         ensures same { IsSameReceiver self.old self.new }
         ensures forgotten { IsForgotten self.new }
     {
@@ -261,7 +261,7 @@ impl Core {
         ensures last { self.new.last ≡ Some time }
         ensures same { IsSameReceiver self.old self.new }
         ensures begun { (past : List (Delivery Reading)) (set : List Content)
-            → Stands past self.old
+            → IsMemoryAfter past self.old
             → IsStart (sets_since self.old.profile self.old.anchor past) set start
             → IsBegun (sets_since self.old.profile self.old.anchor past) set start self.new }
     {

@@ -5,7 +5,7 @@ ghost use Rattle.std.specs.Prelude.{◌≡◌, None, ◌+◌, ◌<◌, ◌≤◌
 ghost use Rattle.stream_syntax.specs.PixelBlocks.{Part, AreParts};
 ghost use Rattle.stream_syntax.specs.Segments.{Object, of_object};
 ghost use Rattle.sub_base.specs.declared.depth.Depth.TheVariants.{Eight};
-ghost use Rattle.decoder_model.specs.Readings.{Content, AreFields};
+ghost use Rattle.decoder_model.specs.Readings.{Content, AreObjectFields};
 ghost use Rattle.page_core.specs.Private.Painted.{HasRegion, IsWritten, HaveCodes, AreChecked, IsCheckedBlock, code_by_fields, field_runs};
 
 use crate::node::RegionNode;
@@ -60,7 +60,7 @@ pub(crate) fn check_fields<'a>(
     ensures depth { IfOk result (λ fields. fields.depth ≡ depth) }
     ensures checked { (content : Content) (object : Object) → top.now ≡ object.top
         → bottom.now ≡ object.bottom
-        → AreFields (of_object object) content.top content.bottom
+        → AreObjectFields (of_object object) content.top content.bottom
         → AreChecked depth content object result }
 {
     let top_block = match check_field(top, depth) {

@@ -54,7 +54,7 @@ pub(crate) fn row_into(
 }
 
 /// A row of a display, in its window where it has one (EN 300 743, clause 7.2.1).
-fn row_place(display: DisplaySeg, y: u32) -> RowPlace
+pub(crate) fn row_place(display: DisplaySeg, y: u32) -> RowPlace
     ensures window { window_at result ≡ window_of (display_value display) }
     ensures y { result.y ≡ y }
 {

@@ -23,8 +23,8 @@ use Rattle.page_epoch.specs.Instants.{is_named, AreInstants, IsInstant}
 use Rattle.sub_base.specs.Lists.{has_some}
 use Rattle.page_epoch.specs.Live.{live_places}
 use Rattle.page_epoch.specs.Needs.{pixel_need, node_need}
-use Rattle.page_epoch.specs.Plan.{IsEpochAt, IsRow, IsRowBefore, IsNext, Needs, Fits, AreFirstSets, ArePlanned, HasDisplay, IsPlan}
-use Rattle.page_epoch.specs.Refusals.{IsCause, IsFirstUnheld, IsRefusal}
+use Rattle.page_epoch.specs.Plan.{IsEpochAt, IsBringingRecord, IsRowBefore, IsNextSet, Needs, Fits, AreFirstSets, ArePlanned, HasDisplay, IsPlan}
+use Rattle.page_epoch.specs.Refusals.{IsPlanCause, IsFirstUnheld, AnswersPlanFault}
 use Rattle.page_epoch.specs.Rows.{event, events_of, IsLeastRow}
 use Rattle.page_epoch.specs.SentRegions.{AreShown}
 use Rattle.page_epoch.proofs.InstantLaws.{in_order}
@@ -135,16 +135,18 @@ row_before (x ∷ xs) (y ∷ ys) r s same first second =
 
 one_row_by : (epochs : List Epoch) (tick : ℕ) (a b : List PlannedSet) (r s : ℕ) (named : Bool)
     → is_named epochs tick ≡ named →
-    map (λ set. set.row) a ≡ map (λ set. set.row) b → IsRow epochs a tick r → IsRow epochs b tick s → r ≡ s
+    map (λ set. set.row) a ≡ map (λ set. set.row) b → IsBringingRecord epochs a tick r
+    → IsBringingRecord epochs b tick s → r ≡ s
 one_row_by epochs tick a b r s true e same first second =
     one_least (flat_map events_of epochs) tick r s (first.of_named e) (second.of_named e)
 one_row_by epochs tick a b r s false e same first second =
     row_before a b r s same (first.of_refresh e) (second.of_refresh e)
 
 pub one_row : (epochs : List Epoch) (tick time : ℕ) (a b : List PlannedSet) (r s : ℕ) → tick ≡ time →
-    map (λ set. set.row) a ≡ map (λ set. set.row) b → IsRow epochs a tick r → IsRow epochs b time s → r ≡ s
+    map (λ set. set.row) a ≡ map (λ set. set.row) b → IsBringingRecord epochs a tick r
+    → IsBringingRecord epochs b time s → r ≡ s
 one_row epochs tick time a b r s at same first second =
-    let Row : ℕ → Type 0 = λ t. IsRow epochs b t s in
+    let Row : ℕ → Type 0 = λ t. IsBringingRecord epochs b t s in
     one_row_by epochs tick a b r s (is_named epochs tick) refl same first (subst Row (sym at) second)
 
 -- as many regions have a live cue, in whatever order they are shown
@@ -163,7 +165,7 @@ shown_count cues regions tick shown are =
 abbrev pub IsPast : List Epoch → ℕ → List ℕ → List PlannedSet → Type 0
 IsPast epochs refresh instants [] = ⊤
 IsPast epochs refresh instants (set ∷ earlier) =
-    IsNext epochs refresh earlier set × (slice_get instants (length earlier) ≡ Some set.pts)
+    IsNextSet epochs refresh earlier set × (slice_get instants (length earlier) ≡ Some set.pts)
     × IsPast epochs refresh instants earlier
 
 record AreSame (a b : List PlannedSet) : Type 0 where
@@ -202,7 +204,7 @@ record AreSameNeeds (pixels more nodes others : ℕ) : Type 0 where
 -- sets of the same instant need the same of a receiver
 same_needs : (epochs : List Epoch) (refresh : ℕ) (a b : List PlannedSet) (s t : PlannedSet)
     (pixels more nodes others : ℕ) → AreSame a b → s.pts ≡ t.pts →
-    IsNext epochs refresh a s → IsNext epochs refresh b t → Needs epochs a s pixels nodes
+    IsNextSet epochs refresh a s → IsNextSet epochs refresh b t → Needs epochs a s pixels nodes
     → Needs epochs b t more others → AreSameNeeds pixels more nodes others
 unfolding nodes_of
 same_needs epochs refresh a b s t pixels more nodes others same time first second needs again =
@@ -238,7 +240,7 @@ same_needs epochs refresh a b s t pixels more nodes others same time first secon
 record IsSetAt (epochs : List Epoch) (refresh : ℕ) (profile : Profile) (instants : List ℕ) (past : List PlannedSet)
     (n : ℕ) : Type 0 where
   set : PlannedSet
-  next : IsNext epochs refresh past set
+  next : IsNextSet epochs refresh past set
   fits : Fits epochs profile past set
   time : slice_get instants n ≡ Some set.pts
 
@@ -292,7 +294,7 @@ past_of epochs refresh profile instants sets (suc n) other are short =
 record IsUnheldAt (epochs : List Epoch) (refresh : ℕ) (instants : List ℕ) (past : List PlannedSet)
     (row pixels nodes : ℕ) : Type 0 where
   set : PlannedSet
-  next : IsNext epochs refresh past set
+  next : IsNextSet epochs refresh past set
   time : slice_get instants (length past) ≡ Some set.pts
   is_row : row ≡ set.row
   needs : Needs epochs past set pixels nodes
@@ -422,7 +424,7 @@ large_or_held script profile display (inl wide) = absurd (omega (arith, display.
 large_or_held script profile display (inr high) = absurd (omega (arith, display.down))
 
 pub plan_or_fault : (script : Script) (profile : Profile) (sets : List PlannedSet) (fault : PlanFault)
-    → IsPlan script profile sets → IsCause script profile fault → fault ≢ Memory → ⊥
+    → IsPlan script profile sets → IsPlanCause script profile fault → fault ≢ Memory → ⊥
 plan_or_fault script profile sets Memory plan cause other = other refl
 plan_or_fault script profile sets (DisplayTooLarge row) plan cause other =
     large_or_held script profile plan.display cause.large
@@ -433,8 +435,8 @@ plan_or_fault script profile sets (CompositionFull row need) plan cause other =
     all_held script.epochs script.refresh profile sets row cause.1.pixels need plan.planned cause.1.unheld
     (inr cause.1.full)
 
-pub one_fault : (script : Script) (profile : Profile) (told fault : PlanFault) → IsCause script profile told
-    → IsCause script profile fault → fault ≢ Memory →
+pub one_fault : (script : Script) (profile : Profile) (told fault : PlanFault) → IsPlanCause script profile told
+    → IsPlanCause script profile fault → fault ≢ Memory →
     (told ≡ Memory) ⊎ (told ≡ fault)
 one_fault script profile told Memory first second other = absurd (other refl)
 one_fault script profile Memory fault first second other = inl refl
@@ -473,8 +475,8 @@ one_fault script profile (CompositionFull a x) (CompositionFull b y) first secon
 
 pub every_fault : (script : Script) (profile : Profile) (result : Result Plan PlanFault)
     → IfOk result (λ plan. IsPlan script profile plan.sets) →
-    IfErr result (IsCause script profile) → (fault : PlanFault) → IsCause script profile fault
-    → fault ≢ Memory → IsRefusal fault result
+    IfErr result (IsPlanCause script profile) → (fault : PlanFault) → IsPlanCause script profile fault
+    → fault ≢ Memory → AnswersPlanFault fault result
 every_fault script profile (Ok plan) made cause fault is other =
     plan_or_fault script profile plan.sets fault made is other
 every_fault script profile (Err told) made cause fault is other = one_fault script profile told fault cause is other

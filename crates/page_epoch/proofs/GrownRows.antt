@@ -14,7 +14,7 @@ use Rattle.page_epoch.specs.declared.events.Event.{Event}
 use Rattle.page_epoch.specs.declared.planned_set.PlannedSet.{PlannedSet}
 use Rattle.page_epoch.specs.Growth.{AreAbove, EpochGrows, EpochsGrow}
 use Rattle.page_epoch.specs.Instants.{named_ticks, is_named}
-use Rattle.page_epoch.specs.Plan.{IsEpochAt, IsRow}
+use Rattle.page_epoch.specs.Plan.{IsEpochAt, IsBringingRecord}
 use Rattle.page_epoch.specs.Rows.{event, events_of, events_of_cue, IsLeastRow}
 use Rattle.page_epoch.proofs.AnswerLaws.{some_same}
 use Rattle.page_epoch.proofs.EventLaws.{colour_ticks, contains_mapped, cue_ticks, event_ticks}
@@ -124,7 +124,7 @@ least_stays horizon old new tick row grow early is =
 -- the record that brings the set of a tick up to the horizon stays the same
 pub rows_stay : (horizon : ℕ) (old new : List Epoch) (past : List PlannedSet) (tick row : ℕ)
     → EpochsGrow horizon old new → tick ≤ horizon
-    → IsRow old past tick row → IsRow new past tick row
+    → IsBringingRecord old past tick row → IsBringingRecord new past tick row
 rows_stay horizon old new past tick row grow early is =
     let named = names_stay horizon old new tick grow early in
     record {

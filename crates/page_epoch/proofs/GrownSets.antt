@@ -13,7 +13,7 @@ use Rattle.page_epoch.specs.declared.planned_set.SentRegion.{SentRegion}
 use Rattle.page_epoch.specs.Growth.{EpochGrows, EpochsGrow}
 use Rattle.page_epoch.specs.Instants.{is_named}
 use Rattle.page_epoch.specs.Live.{live_places}
-use Rattle.page_epoch.specs.Plan.{IsCarried, IsNext}
+use Rattle.page_epoch.specs.Plan.{IsCarried, IsNextSet}
 use Rattle.page_epoch.specs.SentCluts.{sent_cluts}
 use Rattle.page_epoch.specs.SentRegions.{AreSentRegions, AreShown, live_before, region_from, region_version, rises, is_redrawn, sent_region}
 use Rattle.page_epoch.specs.States.{instants_of, is_due, last_entry, page_version, seen_of, state_of}
@@ -130,8 +130,8 @@ same_regions horizon old new grows early =
 
 -- a set up to the horizon is the next one of the script that goes on
 pub next_stays : (horizon : ℕ) (old new : List Epoch) (refresh : ℕ) (past : List PlannedSet) (set : PlannedSet)
-    → EpochsGrow horizon old new → AreLow horizon (set ∷ past) → IsNext old refresh past set
-    → IsNext new refresh past set
+    → EpochsGrow horizon old new → AreLow horizon (set ∷ past) → IsNextSet old refresh past set
+    → IsNextSet new refresh past set
 next_stays horizon old new refresh past set grow low next =
     let P : PlannedSet → Type 0 = λ one. one.pts ≤ horizon in
     let early : set.pts ≤ horizon = All-head P set past low in

@@ -16,7 +16,7 @@ use Rattle.cue_list.specs.Authored.{is_live}
 use Rattle.page_epoch.specs.declared.live.CueStart.{CueStart}
 use Rattle.page_epoch.specs.Live.{cue_at, own_places, live_places, places_below, started_by, times, start_at, AreStarts}
 use Rattle.page_epoch.specs.SentRegions.{live_before}
-use Rattle.page_epoch.specs.EpochStates.{started_before, IsAfter}
+use Rattle.page_epoch.specs.EpochStates.{started_before, IsReachedBy}
 use Rattle.page_epoch.proofs.InstantLaws.{in_order}
 use Rattle.page_epoch.proofs.ListLaws.{length_kept_places}
 use Rattle.page_epoch.proofs.ShowLaws.{counted}
@@ -228,7 +228,7 @@ order_by starts before tick from to low few first second (inr h) =
 
 -- the new list is that of the tick
 pub live_on : (cues : List Cue) (region : ℕ) (starts : List CueStart) (tick to : ℕ) (seen new : List ℕ)
-    → AreStarts cues region starts → to ≤ length starts → HaveStarted starts tick to → IsAfter seen tick
+    → AreStarts cues region starts → to ≤ length starts → HaveStarted starts tick to → IsReachedBy seen tick
     → IsNonDecreasing new →
     ((v : ℕ) → times v new
     ≡ times v (filter (λ place. is_live tick (cue_at cues place)) (live_before cues region seen))
@@ -277,7 +277,7 @@ live_on cues region starts tick to (before ∷ earlier) new are few point after 
 
 -- no fewer have started than at the instant before
 pub started_order : (cues : List Cue) (region : ℕ) (starts : List CueStart) (tick to : ℕ) (seen : List ℕ)
-    → AreStarts cues region starts → to ≤ length starts → HaveStarted starts tick to → IsAfter seen tick
+    → AreStarts cues region starts → to ≤ length starts → HaveStarted starts tick to → IsReachedBy seen tick
     → started_before cues region seen ≤ to
 started_order cues region starts tick to [] are few point after = omega arith
 started_order cues region starts tick to (before ∷ earlier) are few point after =

@@ -17,7 +17,7 @@ use Rattle.cue_list.specs.declared.epoch.Cue.{Cue}
 use Rattle.cue_list.specs.declared.epoch.Epoch.{Epoch}
 use Rattle.cue_list.specs.declared.epoch.Region.{Region}
 use Rattle.cue_list.specs.declared.script.Script.{Script}
-use Rattle.cue_list.specs.Sound.{AreApart, IsSound}
+use Rattle.cue_list.specs.Sound.{AreSeparate, IsSoundScript}
 use Rattle.stream_syntax.specs.declared.page.State.{State}
 use Rattle.stream_syntax.specs.Segments.{is_entry_state}
 use Rattle.page_epoch.specs.declared.fault.PlanFault.{PlanFault}
@@ -27,8 +27,8 @@ use Rattle.page_epoch.specs.declared.planned_set.PlannedSet.{PlannedSet}
 use Rattle.page_epoch.specs.declared.planned_set.SentRegion.{SentRegion}
 use Rattle.page_epoch.specs.Instants.{is_named, AreInstants}
 use Rattle.page_epoch.specs.Live.{live_places, times}
-use Rattle.page_epoch.specs.Plan.{IsEpochAt, IsCarried, IsNext, AreFirstSets, ArePlanned, IsPlan}
-use Rattle.page_epoch.specs.Refusals.{IsCause}
+use Rattle.page_epoch.specs.Plan.{IsEpochAt, IsCarried, IsNextSet, AreFirstSets, ArePlanned, IsPlan}
+use Rattle.page_epoch.specs.Refusals.{IsPlanCause}
 use Rattle.page_epoch.specs.SentCluts.{sent_cluts}
 use Rattle.page_epoch.specs.SentRegions.{AreOrdered, AreSentRegions, AreShown, listed_cues, sent_region}
 use Rattle.page_epoch.specs.States.{is_due, last_entry, page_version, instants_of, seen_of, state_of}
@@ -169,7 +169,7 @@ carried_as past e f s t epoch state time carried =
 -- behind the same sets the next one of an instant is one
 one_next : (epochs : List Epoch) (refresh : ℕ) (past : List PlannedSet) (s t : PlannedSet)
     → All HaveOwnRows epochs → s.pts ≡ t.pts →
-    IsNext epochs refresh past s → IsNext epochs refresh past t → s ≡ t
+    IsNextSet epochs refresh past s → IsNextSet epochs refresh past t → s ≡ t
 one_next epochs refresh past s t apart time first second =
     let At : ℕ → Type 0 = λ tick. IsEpochAt epochs tick t.epoch second.epoch in
     let place : s.epoch ≡ t.epoch =
@@ -213,7 +213,7 @@ one_past epochs refresh instants (s ∷ a) (t ∷ b) apart first second count =
     let shorter : length a ≡ length b = omega arith in
     let before : a ≡ b = one_past epochs refresh instants a b apart first.2 second.2 shorter in
     let time = same_time instants (length a) (length b) s t shorter first.1 second.1 in
-    let Next : List PlannedSet → Type 0 = λ past. IsNext epochs refresh past t in
+    let Next : List PlannedSet → Type 0 = λ past. IsNextSet epochs refresh past t in
     let set : s ≡ t = one_next epochs refresh a s t apart time first.0 (subst Next (sym before) second.0) in
     cc (set, before)
 
@@ -243,7 +243,7 @@ one_planned epochs refresh profile one other apart first second =
     (length-reverse one ∙ count ∙ sym (length-reverse other)) in
     sym (reverse-reverse one) ∙ ap reverse backward ∙ reverse-reverse other
 
-below_not_same : (a b : Region) → AreApart a b → 1 ≤ a.height → 1 ≤ b.height → a.y ≢ b.y
+below_not_same : (a b : Region) → AreSeparate a b → 1 ≤ a.height → 1 ≤ b.height → a.y ≢ b.y
 below_not_same a b apart high tall same =
     elim apart.rows [
       | inl below ↦ absurd (omega (arith, below, high, same))
@@ -251,7 +251,7 @@ below_not_same a b apart high tall same =
     ]
 
 own_rows_from : (origin width height refresh : ℕ) (epochs : List Epoch) (pictures : List Picture)
-    → IsSound origin width height refresh epochs pictures → All HaveOwnRows epochs
+    → IsSoundScript origin width height refresh epochs pictures → All HaveOwnRows epochs
 own_rows_from origin width height refresh epochs pictures sound k d h i j e order within =
     let regions = (sound.each k d h).regions in
     below_not_same (get_or (get_or epochs k d).regions i e) (get_or (get_or epochs k d).regions j e)
@@ -273,7 +273,7 @@ one_plan script profile one other first second =
     one_planned script.epochs script.refresh profile one other (own_rows script) first.planned second.planned
 
 pub every_plan : (script : Script) (profile : Profile) (result : Result Plan PlanFault)
-    → IfOk result (λ plan. IsPlan script profile plan.sets) → IfErr result (IsCause script profile) →
+    → IfOk result (λ plan. IsPlan script profile plan.sets) → IfErr result (IsPlanCause script profile) →
     (sets : List PlannedSet) → IsPlan script profile sets
     → MatchResult result (λ made. made.sets ≡ sets) (λ fault. fault ≡ Memory)
 every_plan script profile (Ok made) found cause sets plan = one_plan script profile made.sets sets found plan

@@ -10,7 +10,7 @@ use Rattle.cue_list.specs.declared.epoch.Epoch.{Epoch}
 use Rattle.page_epoch.specs.declared.planned_set.PlannedSet.{PlannedSet}
 use Rattle.page_epoch.specs.Instants.{is_named}
 use Rattle.page_epoch.specs.States.{instants_of, page_version}
-use Rattle.page_epoch.specs.Plan.{IsNext, AllBehind}
+use Rattle.page_epoch.specs.Plan.{IsNextSet, AllBehind}
 use Rattle.page_epoch.specs.EpochWalks.{version_behind}
 use Rattle.page_epoch.proofs.ListLaws.{version_step}
 
@@ -51,19 +51,19 @@ last_stands P sets earlier before e all =
 
 -- the version behind the sets so far is the next one
 pub version_is : (epochs : List Epoch) (refresh : ℕ) (sets past : List PlannedSet) (tick : ℕ) (named : Bool)
-    → past ≡ reverse sets → AllBehind (IsNext epochs refresh) sets → named ≡ is_named epochs tick →
+    → past ≡ reverse sets → AllBehind (IsNextSet epochs refresh) sets → named ≡ is_named epochs tick →
     version_behind past named ≡ page_version epochs (instants_of past tick)
 version_is epochs refresh sets [] tick named p all n = refl
 version_is epochs refresh sets (before ∷ earlier) tick named p all n =
-    let is : IsNext epochs refresh earlier before =
-    last_stands (IsNext epochs refresh) sets earlier before
+    let is : IsNextSet epochs refresh earlier before =
+    last_stands (IsNextSet epochs refresh) sets earlier before
     (sym (reverse-reverse sets) ∙ ap reverse (sym p) ∙ reverse-append (before ∷ []) earlier) all in
     ap (λ (v : ℕ). cond named ((v + 1) % 16) v) is.version
     ∙ sym (version_on epochs (map (λ (set : PlannedSet). set.pts) (before ∷ earlier)) tick named n
     (omega arith))
 
 pub small_versions : (epochs : List Epoch) (refresh : ℕ) (sets : List PlannedSet)
-    → AllBehind (IsNext epochs refresh) sets → All (λ (set : PlannedSet). set.page_version < 16) sets
+    → AllBehind (IsNextSet epochs refresh) sets → All (λ (set : PlannedSet). set.page_version < 16) sets
 small_versions epochs refresh sets all = λ k d h.
     let next = all k (get_or sets k d) (slice_get-get_or sets k d h) in
     let version = next.version in

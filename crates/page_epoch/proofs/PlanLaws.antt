@@ -18,9 +18,9 @@ use Rattle.page_epoch.specs.declared.epoch_state.EpochWalk.{EpochWalk}
 use Rattle.page_epoch.specs.Instants.{named_ticks, IsInstant}
 use Rattle.page_epoch.specs.States.{last_entry}
 use Rattle.page_epoch.specs.Private.RecordedInstants.{instant_ticks, AreRecordedInstants}
-use Rattle.page_epoch.specs.EpochStates.{is_first, IsAfter}
-use Rattle.page_epoch.specs.Plan.{IsEpochAt, IsNext, Fits, AllBehind}
-use Rattle.page_epoch.specs.EpochWalks.{IsPlain, IsEpochWalk, IsTimely, Enters, Stays, GoesOn}
+use Rattle.page_epoch.specs.EpochStates.{is_first, IsReachedBy}
+use Rattle.page_epoch.specs.Plan.{IsEpochAt, IsNextSet, Fits, AllBehind}
+use Rattle.page_epoch.specs.EpochWalks.{IsPlain, IsEpochWalk, IsTimely, Enters, Stays, WalkGoesOn}
 use Rattle.page_epoch.proofs.InstantLaws.{in_order}
 
 -- ---- starts and instants
@@ -113,7 +113,7 @@ pub record HavePlanned (epochs : List Epoch) (refresh : ℕ) (profile : Profile)
   pub times : map (λ (set : PlannedSet). set.pts) sets ≡ take count (instant_ticks instants)
   pub rows : (k : ℕ) (d : PlannedSet) (e : Instant) → k < count
       → (get_or sets k d).row ≡ (get_or instants k e).row
-  pub each : AllBehind (IsNext epochs refresh) sets
+  pub each : AllBehind (IsNextSet epochs refresh) sets
   pub fit : AllBehind (Fits epochs profile) sets
   pub seen : List ℕ
   pub stands : IsEpochWalk epochs seen walk
@@ -255,13 +255,13 @@ before_instant instants sets count instant rise sized times h r some =
     omega arith
 
 after_by : (start x tick : ℕ) (xs seen : List ℕ) (b : Bool)
-    → seen ≡ cond b (x ∷ take_while (nat_le start) xs) [] → x ≤ tick → IsAfter seen tick
-after_by start x tick xs seen true e h = subst (λ (s : List ℕ). IsAfter s tick) (sym e) h
-after_by start x tick xs seen false e h = subst (λ (s : List ℕ). IsAfter s tick) (sym e) tt
+    → seen ≡ cond b (x ∷ take_while (nat_le start) xs) [] → x ≤ tick → IsReachedBy seen tick
+after_by start x tick xs seen true e h = subst (λ (s : List ℕ). IsReachedBy s tick) (sym e) h
+after_by start x tick xs seen false e h = subst (λ (s : List ℕ). IsReachedBy s tick) (sym e) tt
 
 after_head : (start : ℕ) (xs seen : List ℕ) (tick : ℕ) → seen ≡ take_while (nat_le start) xs
-    → (0 < length xs → get_or xs 0 0 ≤ tick) → IsAfter seen tick
-after_head start [] seen tick e h = subst (λ (s : List ℕ). IsAfter s tick) (sym e) tt
+    → (0 < length xs → get_or xs 0 0 ≤ tick) → IsReachedBy seen tick
+after_head start [] seen tick e h = subst (λ (s : List ℕ). IsReachedBy s tick) (sym e) tt
 after_head start (x ∷ xs) seen tick e h =
     after_by start x tick xs seen (nat_le start x) (e ∙ take_while-cons (nat_le start) x xs) (h (omega arith))
 
@@ -373,7 +373,7 @@ pub ready_on : (epochs : List Epoch) (refresh : ℕ) (profile : Profile) (instan
     (sets : List PlannedSet) (instant : Instant) (old new : EpochWalk) (whole : ℕ) → IsPlain epochs refresh
     → AreRecordedInstants epochs refresh instants →
     HavePlanned epochs refresh profile instants count sets old whole → count < length instants
-    → instant ≡ get_or instants count instant → GoesOn epochs instant.tick old new
+    → instant ≡ get_or instants count instant → WalkGoesOn epochs instant.tick old new
     → IsReady epochs refresh instants count sets instant new whole
 ready_on epochs refresh profile instants count sets instant old new whole plain steps have h r (inl enters) =
     ready_enters epochs refresh profile instants count sets instant old new whole plain steps have h r enters

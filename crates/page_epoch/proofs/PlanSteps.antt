@@ -23,11 +23,11 @@ use Rattle.page_epoch.specs.Needs.{pixel_need, node_need}
 use Rattle.page_epoch.specs.Private.RecordedInstants.{instant_ticks, IsRecordedInstant, IsFirstNamed, AreRecordedInstants}
 use Rattle.page_epoch.specs.EpochStates.{is_first}
 use Rattle.page_epoch.specs.Private.Layouts.{IsLayout}
-use Rattle.page_epoch.specs.Plan.{IsEpochAt, IsRowBefore, IsCarried, IsNext, Needs, Fits, AreFirstSets, ArePlanned}
+use Rattle.page_epoch.specs.Plan.{IsEpochAt, IsRowBefore, IsCarried, IsNextSet, Needs, Fits, AreFirstSets, ArePlanned}
 use Rattle.page_epoch.specs.declared.fault.PlanFault.{PlanFault}
 use Rattle.page_epoch.specs.declared.fault.PlanFault.TheVariants.{Memory, DisplayTooLarge, PixelFull, CompositionFull}
 use Rattle.page_epoch.specs.Refusals.{IsFirstUnheld, IsNeedFault, IsSetCause}
-use Rattle.page_epoch.specs.EpochWalks.{IsSmallEpoch, IsPlain, IsEpochState, IsSafe, IsTimely, IsSetOf, IsAdvanced, GoesOn, version_behind}
+use Rattle.page_epoch.specs.EpochWalks.{IsSmallEpoch, IsPlain, IsEpochState, IsSafe, IsTimely, IsSetOf, IsAdvanced, WalkGoesOn, version_behind}
 use Rattle.page_epoch.proofs.PageVersions.{version_is}
 use Rattle.stream_syntax.specs.Segments.{is_entry_state}
 use Rattle.page_epoch.proofs.PlanLaws.{below_34, Stands-push, reverse_more, HavePlanned, IsReady, no_set}
@@ -114,7 +114,7 @@ pub next_made : (epochs : List Epoch) (refresh : ℕ) (profile : Profile) (insta
     AreRecordedInstants epochs refresh instants → HavePlanned epochs refresh profile instants count sets old whole
     → count < length instants → instant ≡ get_or instants count instant →
     IsMade epochs refresh instants count sets instant walk whole state step
-    → IsNext epochs refresh (reverse sets) step.set
+    → IsNextSet epochs refresh (reverse sets) step.set
 next_made epochs refresh profile instants count sets instant old walk whole state step steps have h r made =
     let set = step.set in
     let ready = made.ready in
@@ -278,7 +278,7 @@ small_next false tick whole next n h k = omega arith
 -- the sets before are before the epoch that follows
 All-below : (epochs : List Epoch) (refresh : ℕ) (profile : Profile) (instants : List Instant) (count : ℕ)
     (sets : List PlannedSet) (old walk : EpochWalk) (whole tick : ℕ) (later : Epoch) → IsPlain epochs refresh →
-    HavePlanned epochs refresh profile instants count sets old whole → GoesOn epochs tick old walk
+    HavePlanned epochs refresh profile instants count sets old whole → WalkGoesOn epochs tick old walk
     → slice_get epochs (walk.place + 1) ≡ Some later → All (λ (x : PlannedSet). x.pts < later.start) sets
 All-below epochs refresh profile instants count sets old walk whole tick later plain have (inr stays) found =
     have.before_next later (ap (λ (x : EpochWalk). slice_get epochs (x.place + 1)) (sym stays.same) ∙ found)
@@ -301,7 +301,7 @@ pub HavePlanned-more : (epochs : List Epoch) (refresh : ℕ) (profile : Profile)
     (step : EpochStep) (pixels : ℕ) (b : Bool) →
     IsPlain epochs refresh → AreRecordedInstants epochs refresh instants
     → HavePlanned epochs refresh profile instants count sets old whole → count < length instants
-    → instant ≡ get_or instants count instant → GoesOn epochs instant.tick old walk →
+    → instant ≡ get_or instants count instant → WalkGoesOn epochs instant.tick old walk →
     (made : IsMade epochs refresh instants count sets instant walk whole state step)
     → pixels ≡ pixel_need made.ready.stands.epoch.regions → pixels ≤ profile.pixels
     → step.nodes ≤ profile.nodes →
@@ -331,7 +331,7 @@ HavePlanned-more epochs refresh profile instants count sets instant old walk who
           (made.set_of.row ∙ ap (λ (x : Instant). x.row) (r ∙ get_or_default instants count instant e h))
           (grind arith);
       each =
-          Stands-push (IsNext epochs refresh) sets set have.each
+          Stands-push (IsNextSet epochs refresh) sets set have.each
           (next_made epochs refresh profile instants count sets instant old walk whole state step steps have h r made);
       fit =
           Stands-push (Fits epochs profile) sets set have.fit

@@ -12,7 +12,7 @@ use Rattle.page_epoch.specs.declared.region_state.RegionCues.{RegionCues}
 use Rattle.page_epoch.specs.declared.region_state.RegionState.{RegionState}
 use Rattle.page_epoch.specs.Live.{started_by, live_places}
 use Rattle.page_epoch.specs.SentRegions.{rises, region_version, live_before, drawn_count, region_from, sent_region}
-use Rattle.page_epoch.specs.EpochStates.{region_state, region_states, region_after, version_after, drawn_count_after, is_first, IsAfter, IsSmallRegionState}
+use Rattle.page_epoch.specs.EpochStates.{region_state, region_states, region_after, version_after, drawn_count_after, is_first, IsReachedBy, IsSmallRegionState}
 use Rattle.sub_base.specs.Lists.{has_some}
 
 -- ---- one region
@@ -58,9 +58,9 @@ current-more cues region tick seen = λ i. record {
 pub record HaveStepped (cues : List Cue) (regions : List RegionCues) (states : List RegionState) (tick : ℕ)
     (first whole : Bool) (count : ℕ) (stepped : List RegionState) (sent : List SentRegion) : Type 0 where
   pub states_are : (seen : List ℕ) → first ≡ is_first seen → states ≡ region_states cues seen regions
-      → IsAfter seen tick → stepped ≡ region_states cues (tick ∷ seen) (take count regions)
+      → IsReachedBy seen tick → stepped ≡ region_states cues (tick ∷ seen) (take count regions)
   pub sent_are : (seen : List ℕ) → first ≡ is_first seen → states ≡ region_states cues seen regions
-      → IsAfter seen tick →
+      → IsReachedBy seen tick →
       sent ≡ flat_map (λ region. sent_region cues whole (tick ∷ seen) region.id) (take count regions)
   pub long : length stepped ≡ count
   pub small : All IsSmallRegionState stepped
@@ -80,14 +80,14 @@ pub HaveStepped-more : {cues : List Cue} {regions : List RegionCues} {states : L
     (region : RegionCues) (current next : RegionState) (found : List SentRegion) →
     HaveStepped cues regions states tick first whole i stepped sent → i < length regions
     → region ≡ get_or regions i region → current ≡ get_or states i current →
-    ((seen : List ℕ) → current ≡ region_state cues seen region.id → IsAfter seen tick
+    ((seen : List ℕ) → current ≡ region_state cues seen region.id → IsReachedBy seen tick
     → next ≡ region_after first current (started_by cues region.id tick) (live_places cues region.id tick))
     → IsSmallRegionState next → found ≡ region_from region.id next.version whole current.live next.live →
     HaveStepped cues regions states tick first whole (i + 1) (stepped ++ next ∷ []) (sent ++ found)
 HaveStepped-more {cues} {regions} {states} {tick} {first} {whole} {i} {stepped} {sent} region current next found before
     h r c n small f =
     let here : (seen : List ℕ) → first ≡ is_first seen → states ≡ region_states cues seen regions
-    → IsAfter seen tick → next ≡ region_state cues (tick ∷ seen) region.id = λ seen b e a.
+    → IsReachedBy seen tick → next ≡ region_state cues (tick ∷ seen) region.id = λ seen b e a.
     n seen (state_there cues seen regions states i region current e h r c) a
     ∙ ap (λ (x : RegionState). region_after first x (started_by cues region.id tick)
     (live_places cues region.id tick)) (state_there cues seen regions states i region current e h r c)

@@ -26,7 +26,7 @@ use Rattle.page_epoch.specs.SentRegions.{listed_cues}
 use Rattle.sub_base.specs.declared.profile.Profile.{Profile}
 use Rattle.page_epoch.specs.Plan.{IsCarried, ArePlanned}
 use Rattle.page_epoch.proofs.PlanLaws.{below_34}
-use Rattle.page_epoch.specs.Sendable.{HasRegion, HasCue, HasColour, IsSendableRegion, IsSendableClut, IsSendableIn, IsSendable}
+use Rattle.page_epoch.specs.Sendable.{HasRegion, HasCue, HasColour, IsSendableRegion, IsSendableClut, IsSendableIn, IsOfItsEpoch}
 use Rattle.page_epoch.specs.EpochWalks.{IsPlain, IsSmallEpoch, IsNumbered}
 use Rattle.page_epoch.proofs.ListLaws.{length_kept, length_kept_places, kept_within, twice_within, All-none, All-one, All-pieces, one_each}
 use Rattle.page_epoch.proofs.RowLaws.{defined_within, defined_few}
@@ -376,7 +376,7 @@ sendable_in epoch whole tick earlier set small numbered carried time page =
 
 pub sendable_all : (script : Script) (profile : Profile) (sets : List PlannedSet)
     → IsPlain script.epochs script.refresh → ArePlanned script.epochs script.refresh profile sets
-    → All (IsSendable script) sets
+    → All (IsOfItsEpoch script) sets
 sendable_all script profile sets plain planned = λ k d h.
     let epochs = script.epochs in
     let set = get_or sets k d in

@@ -13,7 +13,7 @@ use Rattle.cue_list.specs.declared.epoch.Epoch.{Epoch}
 use Rattle.cue_list.specs.declared.epoch.Region.{Region}
 use Rattle.cue_list.specs.declared.epoch.ColourRow.{ColourRow}
 use Rattle.cue_list.specs.declared.epoch.Cue.{Cue}
-use Rattle.cue_list.specs.Sound.{IsSound, IsEpoch, IsRegion, IsColourRow, IsCue, ticks_of, ticks_of_cue}
+use Rattle.cue_list.specs.Sound.{IsSoundScript, IsEpoch, IsRegion, IsColourRow, IsCue, ticks_of, ticks_of_cue}
 use Rattle.page_epoch.specs.Instants.{named_ticks}
 use Rattle.page_epoch.specs.EpochWalks.{IsPlain}
 
@@ -81,7 +81,7 @@ start_from epochs first k d found rise h (inr some) =
     omega arith
 
 plain_from : (origin width height refresh : ℕ) (epochs : List Epoch) (pictures : List Picture)
-    → IsSound origin width height refresh epochs pictures → IsPlain epochs refresh
+    → IsSoundScript origin width height refresh epochs pictures → IsPlain epochs refresh
 plain_from origin width height refresh epochs pictures sound =
     let rise : AllPairs (λ (a b : Epoch). a.start < b.start) epochs =
     λ i j d h short. (sound.follow i j d h short).starts in
@@ -125,6 +125,6 @@ plain_prop : (epochs : List Epoch) (refresh : ℕ) → IsProp (IsPlain epochs re
 plain_prop epochs refresh = hlevel props
 
 pub plain : (origin width height refresh : ℕ) (epochs : List Epoch) (pictures : List Picture)
-    → ∥ IsSound origin width height refresh epochs pictures ∥₁ → IsPlain epochs refresh
+    → ∥ IsSoundScript origin width height refresh epochs pictures ∥₁ → IsPlain epochs refresh
 plain origin width height refresh epochs pictures sound =
     ∥∥₁_elim sound (plain_prop epochs refresh) (plain_from origin width height refresh epochs pictures)

@@ -20,9 +20,9 @@ started_before cues region [] = 0
 started_before cues region (before ∷ earlier) = started_by cues region before
 
 -- the latest of these instants is not after a tick
-abbrev pub IsAfter : List ℕ → ℕ → Type 0
-IsAfter [] tick = ⊤
-IsAfter (before ∷ earlier) tick = before ≤ tick
+abbrev pub IsReachedBy : List ℕ → ℕ → Type 0
+IsReachedBy [] tick = ⊤
+IsReachedBy (before ∷ earlier) tick = before ≤ tick
 
 -- a region before the first instant
 abbrev pub first_region_state : RegionState

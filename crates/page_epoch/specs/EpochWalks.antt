@@ -13,7 +13,7 @@ use Rattle.page_epoch.specs.declared.epoch_state.SetHead.{SetHead}
 use Rattle.page_epoch.specs.declared.instants.Instant.{Instant}
 use Rattle.std.specs.List.{AllPairs}
 use Rattle.page_epoch.specs.Instants.{named_ticks}
-use Rattle.page_epoch.specs.EpochStates.{region_states, changed_versions, is_first, IsAfter, IsSmallRegionState, IsSmallVersion}
+use Rattle.page_epoch.specs.EpochStates.{region_states, changed_versions, is_first, IsReachedBy, IsSmallRegionState, IsSmallVersion}
 use Rattle.page_epoch.specs.Private.Layouts.{IsLayout}
 use Rattle.page_epoch.specs.Needs.{node_need}
 use Rattle.page_epoch.specs.Private.Showing.{AreLasting}
@@ -43,7 +43,7 @@ pub record IsSafe (layout : Layout) (current : EpochState) : Type 0 where
 pub record IsTimely (start : ℕ) (seen : List ℕ) (tick : ℕ) : Type 0 where
   pub at_start : is_first seen ≡ true → tick ≡ start
   pub later : is_first seen ≡ false → start < tick
-  pub after : IsAfter seen tick
+  pub after : IsReachedBy seen tick
 
 -- a set with that head
 pub record IsSetOf (head : SetHead) (set : PlannedSet) : Type 0 where
@@ -108,5 +108,5 @@ pub record Stays (epochs : List Epoch) (tick : ℕ) (old new : EpochWalk) : Type
   pub same : new ≡ old
   pub later : (next : Epoch) → slice_get epochs (old.place + 1) ≡ Some next → tick < next.start
 
-abbrev pub GoesOn : List Epoch → ℕ → EpochWalk → EpochWalk → Type 0
-GoesOn epochs tick old new = Enters epochs tick old new ⊎ Stays epochs tick old new
+abbrev pub WalkGoesOn : List Epoch → ℕ → EpochWalk → EpochWalk → Type 0
+WalkGoesOn epochs tick old new = Enters epochs tick old new ⊎ Stays epochs tick old new

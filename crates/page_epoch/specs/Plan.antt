@@ -28,7 +28,7 @@ IsRowBefore [] row = ⊥
 IsRowBefore (before ∷ earlier) row = row ≡ before.row
 
 -- the record that brings a set: the least that names its tick, and for a refresh that of the set before
-pub record IsRow (epochs : List Epoch) (past : List PlannedSet) (tick row : ℕ) : Type 0 where
+pub record IsBringingRecord (epochs : List Epoch) (past : List PlannedSet) (tick row : ℕ) : Type 0 where
   pub of_named : is_named epochs tick ≡ true → IsLeastRow (flat_map events_of epochs) tick row
   pub of_refresh : is_named epochs tick ≡ false → IsRowBefore past row
 
@@ -41,10 +41,10 @@ pub record IsCarried (epoch : Epoch) (whole : Bool) (seen : List ℕ) (set : Pla
   pub in_order : IsNonDecreasing set.cues
 
 -- the next set: the sets before it are given, the latest first
-pub record IsNext (epochs : List Epoch) (refresh : ℕ) (past : List PlannedSet) (set : PlannedSet) : Type 0 where
+pub record IsNextSet (epochs : List Epoch) (refresh : ℕ) (past : List PlannedSet) (set : PlannedSet) : Type 0 where
   pub epoch : Epoch
   pub place : IsEpochAt epochs set.pts set.epoch epoch
-  pub row : IsRow epochs past set.pts set.row
+  pub row : IsBringingRecord epochs past set.pts set.row
   pub state : set.state
       ≡ state_of (epoch.start == set.pts) (is_named epochs set.pts) (is_due refresh set.pts (last_entry past))
   pub version : set.page_version ≡ page_version epochs (instants_of past set.pts)
@@ -79,7 +79,7 @@ pub record AreFirstSets (epochs : List Epoch) (refresh : ℕ) (profile : Profile
     (sets : List PlannedSet) : Type 0 where
   pub times : map (λ set. set.pts) sets ≡ take (length sets) instants
   pub few : length sets ≤ length instants
-  pub each : AllBehind (IsNext epochs refresh) sets
+  pub each : AllBehind (IsNextSet epochs refresh) sets
   pub fit : AllBehind (Fits epochs profile) sets
 
 -- the sets of all instants, each of which a receiver can hold

@@ -7,7 +7,7 @@ use Rattle.page_epoch.specs.declared.fault.PlanFault.{PlanFault}
 use Rattle.page_epoch.specs.declared.fault.PlanFault.TheVariants.{Memory, DisplayTooLarge, PixelFull, CompositionFull}
 use Rattle.page_epoch.specs.declared.planned_set.PlannedSet.{PlannedSet}
 use Rattle.page_epoch.specs.Instants.{AreInstants}
-use Rattle.page_epoch.specs.Plan.{HasDisplay, AreFirstSets, IsNext, Needs}
+use Rattle.page_epoch.specs.Plan.{HasDisplay, AreFirstSets, IsNextSet, Needs}
 
 -- the first set that a receiver cannot hold: it can hold all sets before
 pub record IsFirstUnheld (epochs : List Epoch) (refresh : ℕ) (profile : Profile)
@@ -18,7 +18,7 @@ pub record IsFirstUnheld (epochs : List Epoch) (refresh : ℕ) (profile : Profil
   pub first : AreFirstSets epochs refresh profile instants before
   pub set : PlannedSet
   pub time : slice_get instants (length before) ≡ Some set.pts
-  pub next : IsNext epochs refresh (reverse before) set
+  pub next : IsNextSet epochs refresh (reverse before) set
   pub is_row : row ≡ set.row
   pub needs : Needs epochs (reverse before) set pixels nodes
 
@@ -48,17 +48,17 @@ IsSetCause epochs refresh profile (PixelFull row need) = IsPixelFull epochs refr
 IsSetCause epochs refresh profile (CompositionFull row need) = IsCompositionFull epochs refresh profile row need
 
 -- the cause of a refusal: the display, or where it is not too large a set; want of memory has none
-abbrev pub IsCause : Script → Profile → PlanFault → Type 0
-IsCause script profile Memory = ⊤
-IsCause script profile (DisplayTooLarge row) = IsDisplayTooLarge script profile row
-IsCause script profile (PixelFull row need) =
+abbrev pub IsPlanCause : Script → Profile → PlanFault → Type 0
+IsPlanCause script profile Memory = ⊤
+IsPlanCause script profile (DisplayTooLarge row) = IsDisplayTooLarge script profile row
+IsPlanCause script profile (PixelFull row need) =
     HasDisplay script.width script.height profile × IsPixelFull script.epochs script.refresh profile row need
-IsCause script profile (CompositionFull row need) =
+IsPlanCause script profile (CompositionFull row need) =
     HasDisplay script.width script.height profile × IsCompositionFull script.epochs script.refresh profile row need
 
 -- this fault is answered, or want of memory
-abbrev pub IsRefusal : {T : Type 0} → PlanFault → Result T PlanFault → Type 0
-IsRefusal fault result = MatchResult result (λ _. ⊥) (λ told. (told ≡ Memory) ⊎ (told ≡ fault))
+abbrev pub AnswersPlanFault : {T : Type 0} → PlanFault → Result T PlanFault → Type 0
+AnswersPlanFault fault result = MatchResult result (λ _. ⊥) (λ told. (told ≡ Memory) ⊎ (told ≡ fault))
 
 -- a need that a profile has not, pixels before nodes
 abbrev pub IsNeedFault : Profile → ℕ → ℕ → ℕ → PlanFault → Type 0

@@ -53,7 +53,7 @@ pub record IsSendableIn (epoch : Epoch) (set : PlannedSet) : Type 0 where
   pub cues : All (HasCue epoch) set.cues
 
 -- what a set carries is of its epoch in the script
-pub record IsSendable (script : Script) (set : PlannedSet) : Type 0 where
+pub record IsOfItsEpoch (script : Script) (set : PlannedSet) : Type 0 where
   pub epoch : Epoch
   pub found : slice_get script.epochs set.epoch ≡ Some epoch
   pub carried : IsSendableIn epoch set

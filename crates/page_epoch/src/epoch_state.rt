@@ -4,7 +4,7 @@ ghost use Rattle.cue_list.specs.declared.limits.TheConstants.{MOST_EPOCHS};
 ghost use Rattle.stream_syntax.specs.Segments.{is_entry_state as is_entry_state_of};
 ghost use Rattle.page_epoch.specs.EpochStates.{first_region_state};
 ghost use Rattle.page_epoch.specs.Private.Layouts.{IsLayout};
-ghost use Rattle.page_epoch.specs.EpochWalks.{IsSmallEpoch, IsEpochState, IsSafe, IsTimely, IsSetOf, IsAdvanced, IsEpochWalk, GoesOn};
+ghost use Rattle.page_epoch.specs.EpochWalks.{IsSmallEpoch, IsEpochState, IsSafe, IsTimely, IsSetOf, IsAdvanced, IsEpochWalk, WalkGoesOn};
 
 use crate::clut_changes::ClutChanges;
 use crate::clut_step::step_cluts;
@@ -207,7 +207,7 @@ impl EpochWalk {
         requires few { All IsSmallEpoch epochs.now }
         requires many { length epochs.now ≤ MOST_EPOCHS }
         requires there { self.place < length epochs.now }
-        ensures { IfOk result (GoesOn epochs.now tick self) }
+        ensures { IfOk result (WalkGoesOn epochs.now tick self) }
     {
         let next = self.place + 1;
         // One epoch at most begins from one instant to the next, as the start of an epoch is itself

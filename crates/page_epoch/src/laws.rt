@@ -4,7 +4,7 @@ ghost use Rattle.cue_list.specs.declared.script.Script.{Script};
 ghost use Rattle.page_epoch.specs.Growth.{BeginAlike, EpochGrows, EpochsGrow, Grows};
 ghost use Rattle.page_epoch.specs.Instants.{is_named, IsInstant};
 ghost use Rattle.page_epoch.specs.Live.{live_places};
-ghost use Rattle.page_epoch.specs.Plan.{IsEpochAt, IsPlan, IsRow};
+ghost use Rattle.page_epoch.specs.Plan.{IsEpochAt, IsPlan, IsBringingRecord};
 ghost use Rattle.page_epoch.specs.States.{page_version};
 ghost use Rattle.page_epoch.specs.declared.instants.TheConstants.{REFRESH_ROOM};
 ghost use Rattle.page_epoch.specs.declared.planned_set.PlannedSet.{PlannedSet};
@@ -29,7 +29,7 @@ pub fn names_stay()
 pub fn rows_stay()
     ensures { (horizon : ℕ) (old new : List Epoch) (past : List PlannedSet) (tick row : ℕ)
         → EpochsGrow horizon old new → tick ≤ horizon
-        → IsRow old past tick row → IsRow new past tick row }
+        → IsBringingRecord old past tick row → IsBringingRecord new past tick row }
 {}
 
 /// The epoch of a tick up to the horizon stays at its place, and goes on above the horizon.

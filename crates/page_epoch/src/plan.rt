@@ -1,8 +1,8 @@
 ghost use Rattle.std.specs.Prelude.{◌≡◌, ◌≢◌, ◌<◌, ◌≤◌, List, reverse, All, IfOk, IfErr, MatchResult, OnOk};
 ghost use Rattle.page_epoch.specs.States.{state_of as state_by};
 ghost use Rattle.page_epoch.specs.Plan.{ArePlanned, IsPlan};
-ghost use Rattle.page_epoch.specs.Refusals.{IsCause, IsNeedFault, IsRefusal, IsSetCause};
-ghost use Rattle.page_epoch.specs.Sendable.{IsSendable};
+ghost use Rattle.page_epoch.specs.Refusals.{IsPlanCause, IsNeedFault, AnswersPlanFault, IsSetCause};
+ghost use Rattle.page_epoch.specs.Sendable.{IsOfItsEpoch};
 ghost use Rattle.page_epoch.specs.EpochWalks.{IsPlain, version_behind};
 
 use crate::epoch_state::{EpochWalk, SetHead, is_entry_state};
@@ -26,15 +26,15 @@ impl Plan {
     /// tested first, then the sets in order, the pixels of a set's epoch before its nodes.
     pub fn make(alloc: Global, script: &Script, profile: &Profile) -> Result<Plan, PlanFault>
         ensures plan { IfOk result (λ plan. IsPlan script.now profile.now plan.sets) }
-        ensures sendable { IfOk result (λ plan. All (IsSendable script.now) plan.sets) }
-        ensures cause { IfErr result (IsCause script.now profile.now) }
+        ensures sendable { IfOk result (λ plan. All (IsOfItsEpoch script.now) plan.sets) }
+        ensures cause { IfErr result (IsPlanCause script.now profile.now) }
 
         // But for want of memory each script with a plan is planned, with its one plan, and each
         // other one is refused, for its one fault.
         ensures every_plan { (sets : List PlannedSet) → IsPlan script.now profile.now sets
             → MatchResult result (λ made. made.sets ≡ sets) (λ fault. fault ≡ PlanFault.Memory) }
-        ensures every_fault { (fault : PlanFault) → IsCause script.now profile.now fault
-            → fault ≢ PlanFault.Memory → IsRefusal fault result }
+        ensures every_fault { (fault : PlanFault) → IsPlanCause script.now profile.now fault
+            → fault ≢ PlanFault.Memory → AnswersPlanFault fault result }
     {
         plan_script(alloc, script, profile)
     }
@@ -43,8 +43,8 @@ impl Plan {
 /// The same, of a display that fits and of its sets.
 fn plan_script(alloc: Global, script: &Script, profile: &Profile) -> Result<Plan, PlanFault>
     ensures plan { IfOk result (λ plan. IsPlan script.now profile.now plan.sets) }
-    ensures sendable { IfOk result (λ plan. All (IsSendable script.now) plan.sets) }
-    ensures cause { IfErr result (IsCause script.now profile.now) }
+    ensures sendable { IfOk result (λ plan. All (IsOfItsEpoch script.now) plan.sets) }
+    ensures cause { IfErr result (IsPlanCause script.now profile.now) }
 {
     if u32::from(script.width) > profile.width || u32::from(script.height) > profile.height {
         // The display is always the second record.

@@ -3,7 +3,7 @@ ghost use Rattle.std.specs.Option.{option_to_list};
 ghost use Rattle.std.specs.List.{flat_map};
 ghost use Rattle.cue_list.specs.declared.limits.TheConstants.{MOST_CUES};
 ghost use Rattle.page_epoch.specs.Live.{started_by, live_places, AreStarts};
-ghost use Rattle.page_epoch.specs.EpochStates.{region_after, region_state, region_states, is_first, IsAfter, AreOwn, IsSmallRegionState};
+ghost use Rattle.page_epoch.specs.EpochStates.{region_after, region_state, region_states, is_first, IsReachedBy, AreOwn, IsSmallRegionState};
 ghost use Rattle.page_epoch.specs.SentRegions.{is_redrawn as is_redrawn_of, is_extended as is_extended_of, region_from, sent_region};
 
 use crate::live::{CueStart, count_started, live_after};
@@ -91,11 +91,11 @@ pub fn step_regions(
     requires long { length states.now ≡ length regions.now }
     requires small { All IsSmallRegionState states.now }
     ensures states { (seen : List ℕ) → first ≡ is_first seen
-        → states.now ≡ region_states cues.now seen regions.now → IsAfter seen tick
+        → states.now ≡ region_states cues.now seen regions.now → IsReachedBy seen tick
         → IfOk result
         (λ steps. steps.states ≡ region_states cues.now (tick ∷ seen) regions.now) }
     ensures sent { (seen : List ℕ) → first ≡ is_first seen
-        → states.now ≡ region_states cues.now seen regions.now → IsAfter seen tick
+        → states.now ≡ region_states cues.now seen regions.now → IsReachedBy seen tick
         → IfOk result
         (λ steps. steps.sent
         ≡ flat_map (λ region. sent_region cues.now whole (tick ∷ seen) region.id)
@@ -139,7 +139,7 @@ fn step_region(
     requires own { AreStarts cues.now region.now.id region.now.starts }
     requires small { IsSmallRegionState current.now }
     ensures next { (seen : List ℕ) → current.now ≡ region_state cues.now seen region.now.id
-        → IsAfter seen tick
+        → IsReachedBy seen tick
         → IfOk result
         (λ next. next
         ≡ region_after first current.now (started_by cues.now region.now.id tick)

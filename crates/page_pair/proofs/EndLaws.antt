@@ -18,18 +18,16 @@ use Rattle.sub_base.specs.Pace.{pace_of}
 use Rattle.sub_base.specs.Profile.{profile_of}
 use Rattle.sub_base.specs.Seen.{Seen}
 use Rattle.sub_base.specs.ToolOutcome.{IsToolCause, TellsTool, untold_tool}
-use Rattle.sub_base.specs.declared.profile.ProfileName.{ProfileName}
 use Rattle.sub_base.specs.declared.status.ToolStatus.{ToolStatus}
 use Rattle.sub_base.specs.declared.status.ToolStatus.TheVariants as tool
 use Rattle.sub_base.specs.declared.status.Which.{Which}
 use Rattle.sub_base.specs.declared.status.Which.TheVariants as which
 use Rattle.page_pair.proofs.PairLaws.{pair_entered, pair_sent}
-use Rattle.page_pair.specs.PairOutcome.{ArePagesApart, AreRead, IsPairRefused, IsUnsendable, ReadsPlainScript, first_pages, pair_causes}
+use Rattle.page_pair.specs.PairOutcome.{ArePagesApart, AreScriptsRead, IsPairRefused, IsUnsendable, ReadsPlainScript, first_pages, pair_causes, first_sent}
 use Rattle.page_pair.specs.PairStream.{IsPairedTo}
 use Rattle.page_pair.specs.PairTop.{HasKept, HasToldWhole}
 use Rattle.page_pair.specs.Private.Ending.{IsSendEnd, IsSent}
 use Rattle.page_pair.specs.Private.Reading.{IsReadStop, first_status, second_status}
-use Rattle.page_pair.specs.declared.pages.TwoPages.{TwoPages}
 use Rattle.page_pair.specs.declared.pair_command.PairCommand.{PairCommand}
 use Rattle.page_pair.specs.declared.pair_command.PairCommand.TheVariants as command
 use Rattle.page_pair.specs.declared.pair_fault.PairFault.{PairFault}
@@ -46,48 +44,49 @@ record ArePacketsOf (bytes : List ℕ) : Type 0 where
   whole : All (λ packet. length packet ≡ 188) packets
   joined : bytes ≡ concat packets
 
-planned_packets : (profile : ProfileName) (pid : ℕ) (pages : TwoPages) (first : Script) (sets : List PlannedSet)
-    (table : Timetable) (bytes : List ℕ) → pid < NULL_PID
-    → IsSentPlan profile pid (first_pages pages) first sets table bytes → ArePacketsOf bytes
-planned_packets profile pid pages first sets table bytes free plan =
-    let pace = pace_of first.origin (profile_of profile) in
+planned_packets : (pairing : Pairing) (first : Script) (sets : List PlannedSet)
+    (table : Timetable) (bytes : List ℕ) → pairing.pid < NULL_PID
+    → IsSentPlan (first_sent pairing first sets table) bytes → ArePacketsOf bytes
+planned_packets pairing first sets table bytes free plan =
+    let pace = pace_of first.origin (profile_of pairing.profile) in
     let sent = plan.sent in
     let known =
-    known_sets pace.coded (first_pages pages) plan.raw sent.units sent.carried
+    known_sets pace.coded (first_pages pairing.pages) plan.raw sent.units sent.carried
     (recursion_from_All IsSendable plan.raw plan.sendable)
-    (recursion_from_All (EndsLast (first_pages pages)) plan.raw plan.ends)
+    (recursion_from_All (EndsLast (first_pages pairing.pages)) plan.raw plan.ends)
     (all_room pace.coded plan.loads sent.units sent.sized sent.on_time.fits) in
     let stream =
-    sent_packets pace.coded pid pace plan.loads sent.units table (is_free pid free) known.units_are sent.sized
+    sent_packets pace.coded pairing.pid pace plan.loads sent.units table (is_free pairing.pid free) known.units_are
+    sent.sized
     sent.schedule in
     record {
-      packets = stream_packets pid sent.units table;
+      packets = stream_packets pairing.pid sent.units table;
       whole =
-          All-from_recursion (λ (packet : List ℕ). length packet ≡ 188) (stream_packets pid sent.units table)
+          All-from_recursion (λ (packet : List ℕ). length packet ≡ 188) (stream_packets pairing.pid sent.units table)
           stream.whole;
       joined = sent.sent ∙ stream.joined;
     }
 
 -- all packets were written
-pub sent_whole : (profile : ProfileName) (pid : ℕ) (pages : TwoPages) (first second : Script) (bytes : List ℕ)
-    (before now : Received) → pid < NULL_PID → ArePagesApart pages
-    → IsPairedTo profile pid pages first second bytes → Appends before.written now.written bytes
-    → IsSent profile pid pages first second before now
-sent_whole profile pid pages first second bytes before now free apart paired written =
+pub sent_whole : (pairing : Pairing) (first second : Script) (bytes : List ℕ)
+    (before now : Received) → pairing.pid < NULL_PID → ArePagesApart pairing.pages
+    → IsPairedTo pairing first second bytes → Appends before.written now.written bytes
+    → IsSent pairing first second before now
+sent_whole pairing first second bytes before now free apart paired written =
     let cut =
-    planned_packets profile pid pages first paired.one paired.table bytes free
-    (pair_sent profile pid pages first second bytes apart paired).0 in
-    let same : IsPairedTo profile pid pages first second (concat cut.packets) =
-    subst (IsPairedTo profile pid pages first second) cut.joined paired in
+    planned_packets pairing first paired.one paired.table bytes free
+    (pair_sent pairing first second bytes apart paired).0 in
+    let same : IsPairedTo pairing first second (concat cut.packets) =
+    subst (IsPairedTo pairing first second) cut.joined paired in
     record {
       packets = cut.packets;
       whole = cut.whole;
       paired = same;
       written = subst (Appends before.written now.written) cut.joined written;
       first_shown = λ missed.
-          (pair_entered profile pid pages first second cut.packets free apart cut.whole same missed).0;
+          (pair_entered pairing first second cut.packets free apart cut.whole same missed).0;
       second_shown = λ missed.
-          (pair_entered profile pid pages first second cut.packets free apart cut.whole same missed).1;
+          (pair_entered pairing first second cut.packets free apart cut.whole same missed).1;
     }
 
 -- ---- how it ends
@@ -96,7 +95,7 @@ module _ (pairing : Pairing) (before now : Seen) where
   abbrev IsCaused : ToolStatus PairFault → Type 0
   IsCaused = IsToolCause (pair_causes pairing before now) before now
 
-  refused : (first second : Script) (fault : PairFault) → AreRead before now first second
+  refused : (first second : Script) (fault : PairFault) → AreScriptsRead before now first second
       → IsUnsendable pairing.profile pairing.pages first second fault
       → IsPairRefused pairing.profile pairing.pages before now fault
   refused first second (pair.FirstScript fault) read cause = absurd cause
@@ -109,8 +108,8 @@ module _ (pairing : Pairing) (before now : Seen) where
   refused first second (pair.Schedule row fault) read cause = (first, second, read, cause)
   refused first second (pair.Stream packet fault) read cause = absurd cause
 
-  pub send_caused : (first second : Script) (status : ToolStatus PairFault) → AreRead before now first second
-      → IsSendEnd pairing.profile pairing.pid pairing.pages first second before.out now.out status → IsCaused status
+  pub send_caused : (first second : Script) (status : ToolStatus PairFault) → AreScriptsRead before now first second
+      → IsSendEnd pairing first second before.out now.out status → IsCaused status
   send_caused first second tool.Done read end = record {
     first = first;
     second = second;
@@ -132,7 +131,7 @@ module _ (pairing : Pairing) (before now : Seen) where
   send_caused first second (tool.InputTooLong source) read end = absurd end
 
   pub send_kept : (first second : Script) (status : ToolStatus PairFault)
-      → IsSendEnd pairing.profile pairing.pid pairing.pages first second before.out now.out status
+      → IsSendEnd pairing first second before.out now.out status
       → HasKept (Some (command.Pair pairing)) before now status
   send_kept first second tool.Done end = tt
   send_kept first second tool.Usage end = tt

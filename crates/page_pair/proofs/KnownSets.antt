@@ -14,7 +14,7 @@ use Rattle.cue_list.specs.declared.script.Script.{Script}
 use Rattle.page_epoch.specs.EpochWalks.{IsNumbered}
 use Rattle.page_epoch.specs.Live.{cue_at}
 use Rattle.page_epoch.specs.Plan.{IsPlan}
-use Rattle.page_epoch.specs.Sendable.{IsSendable, IsSendableClut, IsSendableIn}
+use Rattle.page_epoch.specs.Sendable.{IsOfItsEpoch, IsSendableClut, IsSendableIn}
 use Rattle.page_epoch.specs.SentCluts.{clut_count, clut_version, clut_with, defined_rows, named_cluts, rows_from, sent_clut}
 use Rattle.page_epoch.specs.SentRegions.{listed_cues}
 use Rattle.page_epoch.specs.States.{seen_of}
@@ -243,8 +243,8 @@ known_set : (script : Script) (profile : Profile) (sets : List PlannedSet) (numb
 known_set script profile sets number set plan found =
     let right =
     plain script.origin script.width script.height script.refresh script.epochs script.pictures script.sound in
-    let one : IsSendable script set =
-    subst (IsSendable script) (get_or_from_slice_get sets number set set found)
+    let one : IsOfItsEpoch script set =
+    subst (IsOfItsEpoch script) (get_or_from_slice_get sets number set set found)
     (sendable_all script profile sets right plan.planned number set (slice_get_within sets number set found)) in
     let next = plan.planned.first.each number set found in
     let epoch = next.epoch in

@@ -9,7 +9,6 @@ use Rattle.sub_base.specs.Pace.{pace_of}
 use Rattle.sub_base.specs.Profile.{profile_of}
 use Rattle.sub_base.specs.declared.load.TheConstants.{UNIT_ROOM}
 use Rattle.sub_base.specs.declared.pace.Pace.{Pace}
-use Rattle.sub_base.specs.declared.profile.ProfileName.{ProfileName}
 use Rattle.stream_syntax.specs.declared.wire.TheConstants.{NULL_PID}
 use Rattle.pes_packets.specs.Units.{IsSharedOut}
 use Rattle.cue_list.specs.declared.epoch.Epoch.{Epoch}
@@ -23,7 +22,7 @@ use Rattle.sent_sets.specs.SentStream.{IsSentTo}
 use Rattle.shown_stream.specs.Entered.{IsEnteredRightly}
 use Rattle.shown_stream.specs.SentPlan.{CarriesSet, AreWithoutPage, HasPageFirst, IsSentPlan}
 use Rattle.shown_stream.proofs.Shown.SentEntered.{sent_entered}
-use Rattle.page_pair.specs.PairOutcome.{first_pages, second_pages, ArePagesApart}
+use Rattle.page_pair.specs.PairOutcome.{first_pages, second_pages, ArePagesApart, first_sent, second_sent}
 use Rattle.page_pair.specs.PairSets.{Paged, paged_bytes, Side, IsSide, ArePairSegments, pair_segments, paged_length, segments_size, pair_raw}
 use Rattle.page_pair.specs.PairStream.{IsEven, IsPairedTo}
 use Rattle.page_pair.specs.declared.pages.TwoPages.{TwoPages}
@@ -32,6 +31,7 @@ use Rattle.page_pair.proofs.CountedSegments.{IsFit}
 use Rattle.page_pair.proofs.KnownSets.{IsKnownSet, all_known}
 use Rattle.page_pair.proofs.PagedBytes.{is_framed}
 use Rattle.page_pair.proofs.PairSides.{IsKnownIn, first_carried, second_carried}
+use Rattle.page_pair.specs.declared.pair_words.Pairing.{Pairing}
 
 -- ---- one set
 
@@ -219,52 +219,54 @@ are_sent pages first second (a ∷ one) (b ∷ two) (of_set ∷ segments) (set �
 
 -- ---- the packets
 
-pub pair_sent : (profile : ProfileName) (pid : ℕ) (pages : TwoPages) (first second : Script) (packets : List ℕ)
-    → ArePagesApart pages → (paired : IsPairedTo profile pid pages first second packets)
-    → IsSentPlan profile pid (first_pages pages) first paired.one paired.table packets
-    × IsSentPlan profile pid (second_pages pages) second paired.two paired.table packets
-pair_sent profile pid pages first second packets apart paired = (
+pub pair_sent : (pairing : Pairing) (first second : Script) (packets : List ℕ)
+    → ArePagesApart pairing.pages → (paired : IsPairedTo pairing first second packets)
+    → IsSentPlan (first_sent pairing first paired.one paired.table) packets
+    × IsSentPlan (second_sent pairing second paired.two paired.table) packets
+pair_sent pairing first second packets apart paired = (
   record {
     plan = paired.plans.first_plan;
     raw = raw;
     loads = paired.loads;
     sendable = All-from_recursion IsSendable raw are.sendable;
-    ends = All-from_recursion (EndsLast (first_pages pages)) raw are.first_ends;
+    ends = All-from_recursion (EndsLast (first_pages pairing.pages)) raw are.first_ends;
     sent = paired.sent;
     carries = are.first_carries;
-    page_first = All-from_recursion (HasPageFirst (first_pages pages)) raw are.first_page;
+    page_first = All-from_recursion (HasPageFirst (first_pages pairing.pages)) raw are.first_page;
   },
   record {
     plan = paired.plans.second_plan;
     raw = raw;
     loads = paired.loads;
     sendable = All-from_recursion IsSendable raw are.sendable;
-    ends = All-from_recursion (EndsLast (second_pages pages)) raw are.second_ends;
-    sent = subst (λ (pace : Pace). IsSentTo pace pid raw paired.loads paired.table packets)
-        (ap (λ (origin : ℕ). pace_of origin (profile_of profile)) paired.plans.heads.origin) paired.sent;
+    ends = All-from_recursion (EndsLast (second_pages pairing.pages)) raw are.second_ends;
+    sent = subst (λ (pace : Pace). IsSentTo pace pairing.pid raw paired.loads paired.table packets)
+        (ap (λ (origin : ℕ). pace_of origin (profile_of pairing.profile)) paired.plans.heads.origin) paired.sent;
     carries = are.second_carries;
-    page_first = All-from_recursion (HasPageFirst (second_pages pages)) raw are.second_page;
+    page_first = All-from_recursion (HasPageFirst (second_pages pairing.pages)) raw are.second_page;
   },
 )
   where
     raw : List RawSet
     raw = paired.raw
 
-    are : AreSent pages first second paired.one paired.two raw
+    are : AreSent pairing.pages first second paired.one paired.two raw
     are =
-        are_sent pages first second paired.one paired.two paired.segments raw apart
-        (all_known first (profile_of profile) paired.one paired.plans.first_plan)
-        (all_known second (profile_of profile) paired.two paired.plans.second_plan) paired.plans.even paired.paired
+        are_sent pairing.pages first second paired.one paired.two paired.segments raw apart
+        (all_known first (profile_of pairing.profile) paired.one paired.plans.first_plan)
+        (all_known second (profile_of pairing.profile) paired.two paired.plans.second_plan) paired.plans.even
+        paired.paired
         (recursion_from_All (λ of_set. segments_size of_set ≤ UNIT_ROOM) paired.segments paired.short)
         (recursion_from_All (All IsFit) paired.segments paired.fit) paired.are_raw
 
-pub pair_entered : (profile : ProfileName) (pid : ℕ) (pages : TwoPages) (first second : Script)
-    (packets : List (List ℕ)) → pid < NULL_PID → ArePagesApart pages → All (λ packet. length packet ≡ 188) packets
-    → (paired : IsPairedTo profile pid pages first second (concat packets)) → (missed : ℕ)
-    → IsEnteredRightly profile pid (first_pages pages) first paired.one paired.table packets missed
-    × IsEnteredRightly profile pid (second_pages pages) second paired.two paired.table packets missed
-pair_entered profile pid pages first second packets free apart whole paired missed =
-    let sent = pair_sent profile pid pages first second (concat packets) apart paired in (
-      sent_entered profile pid (first_pages pages) first paired.one paired.table packets missed free whole sent.0,
-      sent_entered profile pid (second_pages pages) second paired.two paired.table packets missed free whole sent.1,
+pub pair_entered : (pairing : Pairing) (first second : Script)
+    (packets : List (List ℕ)) → pairing.pid < NULL_PID → ArePagesApart pairing.pages
+    → All (λ packet. length packet ≡ 188) packets
+    → (paired : IsPairedTo pairing first second (concat packets)) → (missed : ℕ)
+    → IsEnteredRightly (first_sent pairing first paired.one paired.table) packets missed
+    × IsEnteredRightly (second_sent pairing second paired.two paired.table) packets missed
+pair_entered pairing first second packets free apart whole paired missed =
+    let sent = pair_sent pairing first second (concat packets) apart paired in (
+      sent_entered (first_sent pairing first paired.one paired.table) packets missed free whole sent.0,
+      sent_entered (second_sent pairing second paired.two paired.table) packets missed free whole sent.1,
     )

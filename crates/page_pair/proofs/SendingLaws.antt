@@ -130,7 +130,7 @@ module _ (profile : ProfileName) (pid : ℕ) (pages : TwoPages) (first second : 
   pub is_paired : (table : Timetable)
       → IsSchedule made.loads.items (length made.loads.items) (pace_of first.origin (profile_of profile)) table
       → IsOnTime made.loads.items (length made.loads.items) (pace_of first.origin (profile_of profile)) table
-      → IsPairedTo profile pid pages first second
+      → IsPairedTo (record { profile = profile; pid = pid; pages = pages }) first second
       (pair_bytes (record { pid = pid; units = made.written.items; table = table }))
   is_paired table schedule on_time = record {
     one = one;

@@ -18,7 +18,7 @@ use Rattle.sent_sets.specs.RawSets.{AreRawPackets, raw_packet}
 use Rattle.sent_sets.proofs.RawUnits.{raw_size, sum_of_lengths}
 use Rattle.script_stream.proofs.UnitLaws.{AllZip-length, AllZip-more}
 use Rattle.page_pair.specs.PairSets.{ArePairSegments, Paged, Side, first_names, head_of, in_order, on, own_cluts, paged_bytes, pair_raw, pair_segments, pair_size, pairs_of, second_names, segments_size, shared_cluts}
-use Rattle.page_pair.specs.PairStream.{HasRoom, IsEven, IsPairLoad, IsTooLong}
+use Rattle.page_pair.specs.PairStream.{HavePairRoom, IsEven, IsPairLoad, IsPairTooLong}
 use Rattle.page_pair.specs.Private.Objects.{IsReady}
 use Rattle.page_pair.specs.Private.Units.{AreMade, AreSetUnits, AreUnitsOf, IsLoadOf, IsPairStop, IsPairUnit, IsStopAt, IsUnitAt, IsUnitsStop, IsWrittenPair, packet_of, stop_at}
 use Rattle.page_pair.specs.Private.Writing.{AreWritten, CanBeWritten, IsSetStop}
@@ -212,7 +212,7 @@ module _ (pages : TwoPages) (first second : Script) where
   -- the sets before have room
   room_before : (one two : List PlannedSet) (units : List PairUnit) (place n : ℕ) (a b : PlannedSet)
       → AllZip (IsUnitAt pages first second) (take place (zip one two)) units → n < place → slice_get one n ≡ Some a
-      → slice_get two n ≡ Some b → HasRoom pages first second a b
+      → slice_get two n ≡ Some b → HavePairRoom pages first second a b
   room_before [] two units place n a b each before has_a has_b =
       absurd (omega (arith, slice_get_within {A = PlannedSet} [] n a has_a))
   room_before (x ∷ one) [] units place n a b each before has_a has_b =
@@ -234,7 +234,7 @@ module _ (pages : TwoPages) (first second : Script) where
       → IsStopAt pages first second a b place stop → IsUnitsStop pages first second one two stop
   is_stop one two place a b made Memory inside other_inside a_is b_is so_far is = tt
   is_stop one two place a b made (TooLong set size) inside other_inside a_is b_is so_far is =
-      subst (λ (n : ℕ). IsTooLong pages first second one two n size) (sym is.0) (record {
+      subst (λ (n : ℕ). IsPairTooLong pages first second one two n size) (sym is.0) (record {
         first_set = a;
         second_set = b;
         has_first = slice_get_read one (length one) place a refl inside a_is;

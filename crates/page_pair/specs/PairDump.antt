@@ -7,7 +7,7 @@ use Rattle.command_words.specs.Words.{◌>>=◌, has_word, no_places, page_of, p
 use Rattle.command_words.specs.declared.place.InputPlaces.{InputPlaces}
 use Rattle.command_words.specs.declared.ranges.TheConstants.{MOST_BANDS}
 use Rattle.decoder_model.specs.declared.pages.Pages.{Pages}
-use Rattle.dump_text.specs.DumpText.{IsDumpText}
+use Rattle.dump_text.specs.DumpText.{IsDumpText, asked_for}
 use Rattle.packet_source.specs.declared.limits.TheConstants.{STREAM_LIMIT}
 use Rattle.packet_walk.specs.ToldEnds.{IsFront, IsUpToFailure, IsUpToFault, IsWhole}
 use Rattle.packet_walk.specs.declared.told_end.ToldEnd.{ToldEnd}
@@ -48,7 +48,7 @@ dump_places words =
     if is_some (dump_words words) then record { first = Some 6; second = None; out = Some 7 } else no_places
 
 -- the bands are 1 to 64, and the ticks of the words rise
-pub record IsDumping (words : List (List ℕ)) (dump : PairDump) : Type 0 where
+pub record IsPairDumping (words : List (List ℕ)) (dump : PairDump) : Type 0 where
   pub some : 1 ≤ dump.bands
   pub few : dump.bands ≤ 64
   pub rising : are_rising None (drop 8 words) ≡ true
@@ -59,7 +59,7 @@ pub record IsDumping (words : List (List ℕ)) (dump : PairDump) : Type 0 where
 -- in however many bands it draws
 abbrev pub tells_pair : PairDump → List ℕ → Bool → List (List ℕ) → List ℕ → Type 0
 tells_pair dump ticks ended packets text =
-    IsDumpText (profile_of dump.profile) dump.pid dump.pages ticks ended packets text
+    IsDumpText (asked_for (profile_of dump.profile) dump.pid dump.pages ticks) ticks ended packets text
 
 -- ---- how it ends
 

@@ -14,14 +14,15 @@ use Rattle.cue_list.specs.declared.script.Script.{Script}
 use Rattle.decoder_model.specs.declared.pages.Pages.{Pages}
 use Rattle.page_epoch.specs.Plan.{IsPlan}
 use Rattle.page_epoch.specs.declared.planned_set.PlannedSet.{PlannedSet}
-use Rattle.schedule.specs.Refusals.{IsCause as IsScheduleCause}
-use Rattle.schedule.specs.Slots.{IsLoad}
+use Rattle.schedule.specs.Refusals.{IsScheduleCause}
+use Rattle.schedule.specs.Slots.{IsLoad, Timetable}
 use Rattle.schedule.specs.declared.fault.ScheduleFault.{ScheduleFault}
 use Rattle.script_input.specs.ReadScript.{IsScriptRefused, ReadsScript, text_limit}
 use Rattle.script_stream.specs.Refused.{IsPlanRefused, IsRowOf}
 use Rattle.shown_stream.specs.Entered.{IsEnteredRightly}
+use Rattle.shown_stream.specs.SentPlan.{SentPlan}
 use Rattle.page_pair.specs.PairSets.{Paged, segments_size}
-use Rattle.page_pair.specs.PairStream.{ArePairLoads, ArePairPlans, ArePairSets, HaveEqualHeads, IsOtherHead, IsPairedTo, IsTooLong, IsUneven}
+use Rattle.page_pair.specs.PairStream.{ArePairLoads, ArePairPlans, ArePairSets, HaveEqualHeads, IsOtherHead, IsPairedTo, IsPairTooLong, IsUneven}
 use Rattle.page_pair.specs.declared.pages.TwoPages.{TwoPages}
 use Rattle.page_pair.specs.declared.pair_words.Pairing.{Pairing}
 use Rattle.page_pair.specs.declared.pair_fault.PairFault.{PairFault}
@@ -35,6 +36,27 @@ first_pages pages = record { composition = pages.first; ancillary = pages.shared
 
 abbrev pub second_pages : TwoPages → Pages
 second_pages pages = record { composition = pages.second; ancillary = pages.shared }
+
+-- how the sets of the first script's plan are sent, and those of the second's
+abbrev pub first_sent : Pairing → Script → List PlannedSet → Timetable → SentPlan
+first_sent pairing script sets table = record {
+  profile = pairing.profile;
+  pid = pairing.pid;
+  pages = first_pages pairing.pages;
+  script = script;
+  sets = sets;
+  table = table;
+}
+
+abbrev pub second_sent : Pairing → Script → List PlannedSet → Timetable → SentPlan
+second_sent pairing script sets table = record {
+  profile = pairing.profile;
+  pid = pairing.pid;
+  pages = second_pages pairing.pages;
+  script = script;
+  sets = sets;
+  table = table;
+}
 
 -- the three pages differ
 pub record ArePagesApart (pages : TwoPages) : Type 0 where
@@ -50,7 +72,7 @@ abbrev pub ReadsPlainScript : Supplied → Supplied → Script → Type 0
 ReadsPlainScript before now script = ReadsScript false before now before now script
 
 -- both scripts were read
-pub record AreRead (before now : Seen) (first second : Script) : Type 0 where
+pub record AreScriptsRead (before now : Seen) (first second : Script) : Type 0 where
   pub read_first : ReadsPlainScript before.first now.first first
   pub read_second : ReadsPlainScript before.second now.second second
 
@@ -58,18 +80,18 @@ pub record AreRead (before now : Seen) (first second : Script) : Type 0 where
 
 -- Both scripts were read and are sent in the packets that were written; and a receiver of each page shows what its
 -- script authors, wherever it enters.
-pub record IsPaired (profile : ProfileName) (pid : ℕ) (pages : TwoPages) (before now : Seen) : Type 0 where
+pub record IsPaired (pairing : Pairing) (before now : Seen) : Type 0 where
   pub first : Script
   pub second : Script
-  pub read : AreRead before now first second
+  pub read : AreScriptsRead before now first second
   pub packets : List (List ℕ)
   pub whole : All (λ packet. length packet ≡ 188) packets
-  pub paired : IsPairedTo profile pid pages first second (concat packets)
+  pub paired : IsPairedTo pairing first second (concat packets)
   pub written : Appends before.out.written now.out.written (concat packets)
   pub first_shown : (missed : ℕ)
-      → IsEnteredRightly profile pid (first_pages pages) first paired.one paired.table packets
+      → IsEnteredRightly (first_sent pairing first paired.one paired.table) packets
       missed
-  pub second_shown : (missed : ℕ) → IsEnteredRightly profile pid (second_pages pages) second paired.two paired.table
+  pub second_shown : (missed : ℕ) → IsEnteredRightly (second_sent pairing second paired.two paired.table)
       packets missed
 
 -- ---- refused
@@ -105,7 +127,7 @@ IsUnsendable profile pages first second (pair.Uneven place) =
     × (two : List PlannedSet) × IsPlan second (profile_of profile) two × IsUneven one two place
 IsUnsendable profile pages first second (pair.TooLong place size) =
     (one : List PlannedSet) × (two : List PlannedSet) × ArePairPlans profile first second one two
-    × IsTooLong pages first second one two place size
+    × IsPairTooLong pages first second one two place size
 IsUnsendable profile pages first second (pair.Schedule row fault) =
     IsPairScheduleRefused profile pages first second row fault
 IsUnsendable profile pages first second (pair.Stream packet fault) = ⊥
@@ -113,7 +135,7 @@ IsUnsendable profile pages first second (pair.Stream packet fault) = ⊥
 -- both scripts were read, and are not sent for this reason
 abbrev pub IsRefusedBehind : ProfileName → TwoPages → Seen → Seen → PairFault → Type 0
 IsRefusedBehind profile pages before now fault =
-    (first : Script) × (second : Script) × AreRead before now first second
+    (first : Script) × (second : Script) × AreScriptsRead before now first second
     × IsUnsendable profile pages first second fault
 
 -- why the scripts are refused: the first is none, or the second is none and the first is right, or they are not sent
@@ -139,20 +161,20 @@ IsPairRefused profile pages before now (pair.Stream packet fault) = ⊥
 -- ---- stopped
 
 -- nothing was written, or a front of the packets of both scripts
-abbrev pub IsPairStopped : ProfileName → ℕ → TwoPages → Seen → Seen → Type 0
-IsPairStopped profile pid pages before now =
+abbrev pub IsPairStopped : Pairing → Seen → Seen → Type 0
+IsPairStopped pairing before now =
     WroteNothing before.out now.out
-    ⊎ ((first : Script) × (second : Script) × AreRead before now first second × (packets : List ℕ)
-    × IsPairedTo profile pid pages first second packets
+    ⊎ ((first : Script) × (second : Script) × AreScriptsRead before now first second × (packets : List ℕ)
+    × IsPairedTo pairing first second packets
     × AppendsPrefix before.out.written now.out.written packets)
 
 -- the causes of the statuses of `pair`
 abbrev pub pair_causes : Pairing → Seen → Seen → Causes PairFault
 pair_causes pairing before now = record {
-  IsDone = IsPaired pairing.profile pairing.pid pairing.pages before now;
+  IsDone = IsPaired pairing before now;
   IsRefused = λ fault.
       IsPairRefused pairing.profile pairing.pages before now fault × WroteNothing before.out now.out;
-  IsStopped = IsPairStopped pairing.profile pairing.pid pairing.pages before now;
+  IsStopped = IsPairStopped pairing before now;
   limit = text_limit;
 }
 

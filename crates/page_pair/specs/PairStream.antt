@@ -16,6 +16,7 @@ use Rattle.sent_sets.specs.RawSets.{RawSet}
 use Rattle.sent_sets.specs.SentStream.{IsSentTo}
 use Rattle.page_pair.specs.PairSets.{Paged, ArePairSegments, segments_size, pair_size, pair_raw, paged_length, greatest_of}
 use Rattle.page_pair.specs.declared.pages.TwoPages.{TwoPages}
+use Rattle.page_pair.specs.declared.pair_words.Pairing.{Pairing}
 
 -- ---- two plans of equal timing
 
@@ -91,12 +92,12 @@ pub record ArePairLoads (first second : Script) (one two : List PlannedSet) (seg
       → IsPairLoad first second a b of_set load
 
 -- the segments of the sets of both have room in one PES packet
-abbrev pub HasRoom : TwoPages → Script → Script → PlannedSet → PlannedSet → Type 0
-HasRoom pages first second one two =
+abbrev pub HavePairRoom : TwoPages → Script → Script → PlannedSet → PlannedSet → Type 0
+HavePairRoom pages first second one two =
     (of_set : List Paged) × ArePairSegments pages first second one two of_set × (segments_size of_set ≤ UNIT_ROOM)
 
 -- the sets at this place are the first whose segments have no room in one PES packet, which would have this size
-pub record IsTooLong (pages : TwoPages) (first second : Script) (one two : List PlannedSet)
+pub record IsPairTooLong (pages : TwoPages) (first second : Script) (one two : List PlannedSet)
     (place size : ℕ) : Type 0 where
   pub first_set : PlannedSet
   pub second_set : PlannedSet
@@ -107,19 +108,19 @@ pub record IsTooLong (pages : TwoPages) (first second : Script) (one two : List 
   pub long : UNIT_ROOM < segments_size of_set
   pub size_is : size ≡ pair_size of_set
   pub before : (n : ℕ) (a b : PlannedSet) → n < place → slice_get one n ≡ Some a → slice_get two n ≡ Some b
-      → HasRoom pages first second a b
+      → HavePairRoom pages first second a b
 
 -- ---- the packets
 
 -- Two scripts of equal timing are sent in these packets: the segments of the sets at each place of their plans in one
 -- PES packet, in the slots of the schedule of their loads, and null packets at all slots between.
-pub record IsPairedTo (profile : ProfileName) (pid : ℕ) (pages : TwoPages) (first second : Script)
+pub record IsPairedTo (pairing : Pairing) (first second : Script)
     (packets : List ℕ) : Type 0 where
   pub one : List PlannedSet
   pub two : List PlannedSet
-  pub plans : ArePairPlans profile first second one two
+  pub plans : ArePairPlans pairing.profile first second one two
   pub segments : List (List Paged)
-  pub paired : ArePairSets pages first second one two segments
+  pub paired : ArePairSets pairing.pages first second one two segments
   pub short : All (λ of_set. segments_size of_set ≤ UNIT_ROOM) segments
   pub fit : All (All (λ segment. IsWritable segment.page segment.value)) segments
   pub loads : List WriteLoad
@@ -128,4 +129,4 @@ pub record IsPairedTo (profile : ProfileName) (pid : ℕ) (pages : TwoPages) (fi
   pub are_raw : AllZip (λ (sets : PlannedSet × List Paged) (set : RawSet). set ≡ pair_raw sets.0.pts sets.1)
       (zip one segments) raw
   pub table : Timetable
-  pub sent : IsSentTo (pace_of first.origin (profile_of profile)) pid raw loads table packets
+  pub sent : IsSentTo (pace_of first.origin (profile_of pairing.profile)) pairing.pid raw loads table packets

@@ -5,7 +5,7 @@ ghost use Rattle.command_words.specs.Ticks.{are_rising as are_ticks_rising, aske
 ghost use Rattle.sub_base.specs.Endpoints.{Supplied};
 ghost use Rattle.sub_base.specs.Seen.{seen};
 ghost use Rattle.sub_base.specs.ToolOutcome.{IsToolCause};
-ghost use Rattle.page_pair.specs.PairDump.{IsDumpUnread, IsDumping, dump_causes, dump_places, dump_status, dump_words as dump_words_of};
+ghost use Rattle.page_pair.specs.PairDump.{IsDumpUnread, IsPairDumping, dump_causes, dump_places, dump_status, dump_words as dump_words_of};
 
 use crate::pair_fault::PairFault;
 use command_words::{
@@ -39,7 +39,7 @@ pub struct PairDump {
 /// such words: the two pages differ, and 1 to 1,000 ticks rise.
 pub(crate) fn dump_words(words: &Words) -> Option<PairDump>
     ensures words { result ≡ dump_words_of words.now }
-    ensures range { IfSome result (IsDumping words.now) }
+    ensures range { IfSome result (IsPairDumping words.now) }
 {
     if !are_plain(words) || !has_ticks(words, WORDS_OF_DUMP) || !has_word(words, 0, "pairdump") {
         return None;
@@ -91,7 +91,7 @@ pub(crate) fn pair_dump<R: Threads + Sync, A: Source, K: Sink, G: BandGate + Syn
     out: &mut K,
     gate: &G,
 ) -> ToolStatus<PairFault>
-    requires asked { IsDumping words.now dump }
+    requires asked { IsPairDumping words.now dump }
     // No other source is called.
     ensures cause { (second : Supplied) →
         let before = seen (A.supplied stream.old) second (K.received out.old) in

@@ -24,12 +24,6 @@ pub(crate) enum SetStop {
     TooLong { size: u64 },
 }
 
-impl From<NoMemory> for SetStop {
-    fn from(_fault: NoMemory) -> SetStop {
-        SetStop::Memory
-    }
-}
-
 /// The segments of the two sets that stand at one place of two plans: what both send alike is
 /// written once, on the shared page. All are measured before an object is written.
 #[tactic(auto, using(crate::proofs::PairSetLaws::pair_short))]

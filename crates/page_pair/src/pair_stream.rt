@@ -2,7 +2,7 @@
 
 ghost use Rattle.std.specs.Prelude.{◌≡◌, ◌<◌, All, IfErr, IfOk, OnOk};
 ghost use Rattle.std.specs.Io.KnownBytes.{Appends, Keeps};
-ghost use Rattle.page_epoch.specs.Sendable.{IsSendable};
+ghost use Rattle.page_epoch.specs.Sendable.{IsOfItsEpoch};
 ghost use Rattle.shown_stream.specs.Compiled.{IsCompiledFor};
 ghost use Rattle.slot_stream.specs.SlotStream.{IsPiece, all_pieces};
 ghost use Rattle.stream_syntax.specs.declared.wire.TheConstants.{NULL_PID};
@@ -61,7 +61,8 @@ impl PairStream {
         requires pid { pid < NULL_PID }
         requires profile { IsCompiledFor profile }
         ensures paired { IfOk result
-            (λ sent. IsPairedTo profile pid pages first.now second.now (pair_bytes sent)) }
+            (λ sent. IsPairedTo (record { profile = profile; pid = pid; pages = pages })
+            first.now second.now (pair_bytes sent)) }
         ensures stop { IfErr result (IsStreamStop profile pages first.now second.now) }
     {
         if let Some(row) = other_head(first, second) {
@@ -99,10 +100,11 @@ impl PairStream {
         requires pid { pid < NULL_PID }
         requires profile { IsCompiledFor profile }
         requires plans { ArePairPlans profile first.now second.now one.now two.now }
-        requires first_sets { All (IsSendable first.now) one.now }
-        requires second_sets { All (IsSendable second.now) two.now }
+        requires first_sets { All (IsOfItsEpoch first.now) one.now }
+        requires second_sets { All (IsOfItsEpoch second.now) two.now }
         ensures paired { IfOk result
-            (λ sent. IsPairedTo profile pid pages first.now second.now (pair_bytes sent)) }
+            (λ sent. IsPairedTo (record { profile = profile; pid = pid; pages = pages })
+            first.now second.now (pair_bytes sent)) }
         ensures stop { IfErr result (IsStreamStop profile pages first.now second.now) }
     {
         let units = match pair_units(alloc, pages, first, second, one, two) {

@@ -1,6 +1,6 @@
 ghost use Rattle.std.specs.Prelude.{All, IfErr, IfOk};
 ghost use Rattle.page_epoch.specs.Plan.{IsPlan};
-ghost use Rattle.page_epoch.specs.Sendable.{IsSendable};
+ghost use Rattle.page_epoch.specs.Sendable.{IsOfItsEpoch};
 ghost use Rattle.sub_base.specs.Profile.{profile_of};
 ghost use Rattle.page_pair.specs.Private.Sending.{IsPlanStop};
 
@@ -25,7 +25,7 @@ pub(crate) fn plan_of(
     script: &Script,
 ) -> Result<Plan, PlanStop>
     ensures plan { IfOk result (λ plan. IsPlan script.now (profile_of profile) plan.sets) }
-    ensures sendable { IfOk result (λ plan. All (IsSendable script.now) plan.sets) }
+    ensures sendable { IfOk result (λ plan. All (IsOfItsEpoch script.now) plan.sets) }
     ensures stop { IfErr result (IsPlanStop profile script.now) }
 {
     let receiver = Profile::of(profile);

@@ -1,6 +1,6 @@
 ghost use Rattle.std.specs.Prelude.{◌≡◌, ◌≤◌, ◌^◌, All, IfOk, length};
 ghost use Rattle.cue_list.specs.declared.limits.TheConstants.{MOST_CUES};
-ghost use Rattle.page_epoch.specs.Sendable.{HasCue, IsSendable};
+ghost use Rattle.page_epoch.specs.Sendable.{HasCue, IsOfItsEpoch};
 ghost use Rattle.set_coder.specs.KeptBlocks.{AreCoded};
 ghost use Rattle.set_coder.specs.Usable.{AreDrawable};
 ghost use Rattle.stream_syntax.specs.SegmentTests.{AreBlocks};
@@ -80,7 +80,7 @@ impl<'a> Language<'a> {
         set: &'a PlannedSet,
     ) -> Result<Language<'a>, NoMemory>
         requires kept { AreCoded script.now.pictures kept.now.coded.items }
-        requires sendable { IsSendable script.now set.now }
+        requires sendable { IsOfItsEpoch script.now set.now }
         ensures ready { IfOk result IsReady }
         ensures script { IfOk result (λ side. side.script ≡ script.now) }
         ensures set { IfOk result (λ side. side.set ≡ set.now) }

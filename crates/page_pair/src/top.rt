@@ -153,7 +153,7 @@ fn send<K: Sink>(
     out: &mut K,
 ) -> ToolStatus<PairFault>
     requires pairing { IsPairing pairing }
-    ensures { IsSendEnd pairing.profile pairing.pid pairing.pages first.now second.now
+    ensures { IsSendEnd pairing first.now second.now
         (K.received out.old) (K.received out.new) result }
 {
     let Pairing {

@@ -1,6 +1,6 @@
 ghost use Rattle.std.specs.Prelude.{◌≡◌, ◌≤◌, [], ◌∷◌, ◌++◌, All, IfErr, IfOk, OnOk, length};
 ghost use Rattle.std.specs.List.{AllZip};
-ghost use Rattle.page_epoch.specs.Sendable.{IsSendable};
+ghost use Rattle.page_epoch.specs.Sendable.{IsOfItsEpoch};
 ghost use Rattle.set_coder.specs.KeptBlocks.{AreCoded};
 ghost use Rattle.sub_base.specs.declared.load.TheConstants.{UNIT_ROOM};
 ghost use Rattle.page_pair.specs.PairStream.{IsEven};
@@ -59,8 +59,8 @@ pub(crate) fn pair_units(
     one: &[PlannedSet],
     two: &[PlannedSet],
 ) -> Result<PairUnits, UnitsStop>
-    requires first_sets { All (IsSendable first.now) one.now }
-    requires second_sets { All (IsSendable second.now) two.now }
+    requires first_sets { All (IsOfItsEpoch first.now) one.now }
+    requires second_sets { All (IsOfItsEpoch second.now) two.now }
     requires even { AllZip IsEven one.now two.now }
     ensures made { IfOk result (AreUnitsOf pages first.now second.now one.now two.now) }
     ensures stop { IfErr result (IsUnitsStop pages first.now second.now one.now two.now) }
@@ -97,8 +97,8 @@ fn units_of(
 ) -> Result<PairUnits, UnitsStop>
     requires first { AreCoded first.now.script.now.pictures first.now.kept.now.coded.items }
     requires second { AreCoded second.now.script.now.pictures second.now.kept.now.coded.items }
-    requires first_sets { All (IsSendable first.now.script.now) one.now }
-    requires second_sets { All (IsSendable second.now.script.now) two.now }
+    requires first_sets { All (IsOfItsEpoch first.now.script.now) one.now }
+    requires second_sets { All (IsOfItsEpoch second.now.script.now) two.now }
     requires even { AllZip IsEven one.now two.now }
     ensures made { IfOk result
         (AreUnitsOf pages first.now.script.now second.now.script.now one.now two.now) }
@@ -163,8 +163,8 @@ fn pair_unit(
 ) -> Result<PairUnit, UnitsStop>
     requires first { AreCoded first.now.script.now.pictures first.now.kept.now.coded.items }
     requires second { AreCoded second.now.script.now.pictures second.now.kept.now.coded.items }
-    requires first_set { IsSendable first.now.script.now one.now }
-    requires second_set { IsSendable second.now.script.now two.now }
+    requires first_set { IsOfItsEpoch first.now.script.now one.now }
+    requires second_set { IsOfItsEpoch second.now.script.now two.now }
     ensures unit { IfOk result
         (IsPairUnit pages first.now.script.now second.now.script.now one.now two.now) }
     ensures stop { IfErr result
@@ -202,8 +202,8 @@ fn written_pair(
 ) -> Result<Written, SetStop>
     requires first { AreCoded first.now.script.now.pictures first.now.kept.now.coded.items }
     requires second { AreCoded second.now.script.now.pictures second.now.kept.now.coded.items }
-    requires first_set { IsSendable first.now.script.now one.now }
-    requires second_set { IsSendable second.now.script.now two.now }
+    requires first_set { IsOfItsEpoch first.now.script.now one.now }
+    requires second_set { IsOfItsEpoch second.now.script.now two.now }
     ensures written { IfOk result
         (IsWrittenPair pages first.now.script.now second.now.script.now one.now two.now) }
     ensures stop { IfErr result

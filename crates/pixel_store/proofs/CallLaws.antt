@@ -3,23 +3,23 @@ use Rattle.std.proofs.Common.{◌≡◌, ◌≢◌, ◌∙◌, refl, sym, ap, su
 use Rattle.std.proofs.lemmas.Bool.{cases_eq, cases_lt, eq-eqb, ne_eqb, lt-ltb, le-ltb, le-leb, lt-leb}
 use Rattle.std.proofs.lemmas.List.Sums.{sum_by-cons}
 use Rattle.sub_base.specs.declared.depth.Depth.{Depth}
-use Rattle.pixel_store.specs.Regions.{Region, Regions, IsPlaced, region_at, code_of, PlacesOne, KeepsOthers, IsFilled, IsRunPainted}
-use Rattle.pixel_store.specs.Calls.{Call, Place, Fill, PaintRun, covers, code_given, last_write, is_place, is_place_of, bytes_taken, placing, IsAfter}
+use Rattle.pixel_store.specs.Regions.{StoredRegion, Regions, IsPlaced, region_at, code_of, PlacesOne, KeepsOthers, IsFilled, IsRunPainted}
+use Rattle.pixel_store.specs.Calls.{StoreCall, Place, Fill, PaintRun, covers, code_given, last_write, is_place, is_place_of, bytes_taken, placing, IsAfter}
 
-found : (p : Call → Bool) (call : Call) (past : List Call) → p call ≡ true
+found : (p : StoreCall → Bool) (call : StoreCall) (past : List StoreCall) → p call ≡ true
     → find p (call ∷ past) ≡ Some call
 found p call past hit = ap (λ (b : Bool). cond b (Some call) (find p past)) hit
 
-passed : (p : Call → Bool) (call : Call) (past : List Call) → p call ≡ false
+passed : (p : StoreCall → Bool) (call : StoreCall) (past : List StoreCall) → p call ≡ false
     → find p (call ∷ past) ≡ find p past
 passed p call past miss = ap (λ (b : Bool). cond b (Some call) (find p past)) miss
 
 -- the last write is that of the call, or that of the calls before
-written : (slot x y : ℕ) (call : Call) (past : List Call) → covers slot x y call ≡ true
+written : (slot x y : ℕ) (call : StoreCall) (past : List StoreCall) → covers slot x y call ≡ true
     → last_write slot x y (call ∷ past) ≡ code_given (Some call)
 written slot x y call past hit = ap code_given (found (covers slot x y) call past hit)
 
-unwritten : (slot x y : ℕ) (call : Call) (past : List Call) → covers slot x y call ≡ false
+unwritten : (slot x y : ℕ) (call : StoreCall) (past : List StoreCall) → covers slot x y call ≡ false
     → last_write slot x y (call ∷ past) ≡ last_write slot x y past
 unwritten slot x y call past miss = ap code_given (passed (covers slot x y) call past miss)
 
@@ -34,12 +34,16 @@ sides slot old new keeps k = elim (cases_eq k slot) [
       × ((region_at new m).depth ≡ (region_at old m).depth) in
       subst Same (sym e) (keeps.width, keeps.height, keeps.depth)
   | inr ne ↦
-      let same = keeps.others k ne in
-      (ap (λ (r : Region). r.width) same, ap (λ (r : Region). r.height) same, ap (λ (r : Region). r.depth) same)
+      let same = keeps.others k ne in (
+        ap (λ (r : StoredRegion). r.width) same,
+        ap (λ (r : StoredRegion). r.height) same,
+        ap
+            (λ (r : StoredRegion). r.depth) same,
+      )
 ]
 
 -- a call that changes the codes of one region
-module _ (slot : ℕ) (old new : Regions) (keeps : KeepsOthers slot old new) (call : Call) (past : List Call)
+module _ (slot : ℕ) (old new : Regions) (keeps : KeepsOthers slot old new) (call : StoreCall) (past : List StoreCall)
     (after : IsAfter past old)
     (no_place : is_place call ≡ false) (no_place_of : (k : ℕ) → is_place_of k call ≡ false)
     (no_bytes : bytes_taken call ≡ 0)
@@ -68,7 +72,7 @@ module _ (slot : ℕ) (old new : Regions) (keeps : KeepsOthers slot old new) (ca
               code_of (region_at new m) x y ≡ last_write m x y (call ∷ past) in
               subst Same (sym e) (here x y) old_in old_column old_row
           | inr ne ↦
-              ap (λ (r : Region). code_of r x y) (keeps.others k ne) ∙ after.codes k x y old_in old_column old_row
+              ap (λ (r : StoredRegion). code_of r x y) (keeps.others k ne) ∙ after.codes k x y old_in old_column old_row
               ∙ sym (unwritten k x y call past (elsewhere k x y ne))
         ];
     bytes = omega (arith, sum_by-cons bytes_taken call past, no_bytes, keeps.free, keeps.size, after.bytes);
@@ -76,7 +80,7 @@ module _ (slot : ℕ) (old new : Regions) (keeps : KeepsOthers slot old new) (ca
 
 pub fill_after : (slot code : ℕ) (old new : Regions) → KeepsOthers slot old new
     → IsFilled code (region_at new slot) →
-    (past : List Call) → IsAfter past old → IsAfter (Fill slot code ∷ past) new
+    (past : List StoreCall) → IsAfter past old → IsAfter (Fill slot code ∷ past) new
 fill_after slot code old new keeps filled past after =
     changed_after slot old new keeps (Fill slot code) past after refl (λ k. refl) refl
     (λ k x y ne. ne_eqb slot k (λ e. ne (sym e)))
@@ -87,7 +91,7 @@ fill_after slot code old new keeps filled past after =
 
 pub run_after : (slot left row count code : ℕ) (old new : Regions) → KeepsOthers slot old new →
     IsRunPainted left row count code (region_at old slot) (region_at new slot) →
-    (past : List Call) → IsAfter past old → IsAfter (PaintRun slot left row count code ∷ past) new
+    (past : List StoreCall) → IsAfter past old → IsAfter (PaintRun slot left row count code ∷ past) new
 run_after slot left row count code old new keeps painted past after =
     changed_after slot old new keeps (PaintRun slot left row count code) past after refl (λ k. refl) refl
     (λ k x y ne. rw (ne_eqb slot k (λ e. ne (sym e))) refl)
@@ -121,7 +125,7 @@ run_after slot left row count code old new keeps painted past after =
 
 pub place_after : (width height : ℕ) (depth : Depth) (slot : ℕ) (old new : Regions)
     → PlacesOne width height depth slot old new →
-    (past : List Call) → IsAfter past old → IsAfter (Place slot width height depth ∷ past) new
+    (past : List StoreCall) → IsAfter past old → IsAfter (Place slot width height depth ∷ past) new
 place_after width height depth slot old new places past after = record {
   count = omega (arith, places.count, after.count, length-more);
   placed = λ k is_in. elim (cases_eq k slot) [
@@ -129,25 +133,25 @@ place_after width height depth slot old new places past after = record {
         found (is_place_of k) (Place slot width height depth) past (eq-eqb slot k (sym e))
         ∙ (λ i. Some (Place (sym e i) width height depth))
         ∙ subst (λ (m : ℕ). Some (Place m width height depth) ≡ Some (placing m (region_at new m))) (sym e)
-        (ap (λ (r : Region). Some (placing slot r)) (sym places.placed))
+        (ap (λ (r : StoredRegion). Some (placing slot r)) (sym places.placed))
     | inr ne ↦
         passed (is_place_of k) (Place slot width height depth) past (ne_eqb slot k (λ e. ne (sym e)))
         ∙ after.placed k (earlier k is_in ne)
-        ∙ ap (λ (r : Region). Some (placing k r)) (sym (places.kept k (earlier k is_in ne)))
+        ∙ ap (λ (r : StoredRegion). Some (placing k r)) (sym (places.kept k (earlier k is_in ne)))
   ];
   codes = λ k x y is_in column row. elim (cases_eq k slot) [
     | inl e ↦
         let Zero : ℕ → Type 0 = λ m. x < (region_at new m).width → y < (region_at new m).height
         → code_of (region_at new m) x y ≡ 0 in
         subst Zero (sym e) (λ column row.
-        places.zeros x y (subst (λ (r : Region). x < r.width) places.placed column)
-        (subst (λ (r : Region). y < r.height) places.placed row)) column row
+        places.zeros x y (subst (λ (r : StoredRegion). x < r.width) places.placed column)
+        (subst (λ (r : StoredRegion). y < r.height) places.placed row)) column row
         ∙ sym (written k x y (Place slot width height depth) past (eq-eqb slot k (sym e)))
     | inr ne ↦
         let same = places.kept k (earlier k is_in ne) in
-        ap (λ (r : Region). code_of r x y) same
-        ∙ after.codes k x y (earlier k is_in ne) (subst (λ (r : Region). x < r.width) same column)
-        (subst (λ (r : Region). y < r.height) same row)
+        ap (λ (r : StoredRegion). code_of r x y) same
+        ∙ after.codes k x y (earlier k is_in ne) (subst (λ (r : StoredRegion). x < r.width) same column)
+        (subst (λ (r : StoredRegion). y < r.height) same row)
         ∙ sym (unwritten k x y (Place slot width height depth) past (ne_eqb slot k (λ e. ne (sym e))))
   ];
   bytes =
@@ -171,7 +175,7 @@ place_after width height depth slot old new places past after = record {
 
 -- a run outside of the region changes nothing
 pub outside_after : (slot left row count code : ℕ) (store : Regions) → (region_at store slot).height ≤ row →
-    (past : List Call) → IsAfter past store → IsAfter (PaintRun slot left row count code ∷ past) store
+    (past : List StoreCall) → IsAfter past store → IsAfter (PaintRun slot left row count code ∷ past) store
 outside_after slot left row count code store below =
     run_after slot left row count code store store
     (record {

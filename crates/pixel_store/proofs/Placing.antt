@@ -7,7 +7,7 @@ use Rattle.sub_base.specs.declared.depth.Depth.TheVariants.{Two, Four, Eight}
 use Rattle.pixel_store.specs.declared.extent.Extent.{Extent}
 use Rattle.pixel_store.specs.Codes.{codes_in_byte, code_in}
 use Rattle.pixel_store.specs.Private.Extents.{stride_of, room_of, size_of, row_start}
-use Rattle.pixel_store.specs.Regions.{Region, with_region}
+use Rattle.pixel_store.specs.Regions.{StoredRegion, with_region}
 use Rattle.pixel_store.specs.Private.Stores.{region_in, no_extent, Adjoin, IsTidy, extent_at, IsStore, regions_in}
 use Rattle.pixel_store.proofs.Bytes.{each_digit}
 use Rattle.pixel_store.proofs.Rows.{column-below, in_byte}
@@ -29,8 +29,8 @@ same_regions : (xs ys : List ℕ) (extents : List Extent)
     map (region_in ys) extents ≡ map (region_in xs) extents
 same_regions xs ys [] each = refl
 same_regions xs ys (p ∷ extents) each =
-    ap (λ (r : Region). r ∷ map (region_in ys) extents) (each zero (omega arith))
-    ∙ ap (λ (rs : List Region). region_in xs p ∷ rs)
+    ap (λ (r : StoredRegion). r ∷ map (region_in ys) extents) (each zero (omega arith))
+    ∙ ap (λ (rs : List StoredRegion). region_in xs p ∷ rs)
     (same_regions xs ys extents (λ k short. each (suc k) (omega arith)))
 
 module _ (xs ys : List ℕ) (used : ℕ) (extents : List Extent) (p : Extent) (is : IsStore xs used extents)
@@ -111,14 +111,14 @@ module _ (xs ys : List ℕ) (used : ℕ) (extents : List Extent) (p : Extent) (i
       let l = Adjoin-at 0 extents used k is.adjoin short in
       region_same xs ys (extent_at extents k) same (slot_fits xs used extents k is short).inside
       (λ i after before. outside i (inl (omega (arith, before, l.1))))) in
-      let region : Region → Region = λ r. r in
+      let region : StoredRegion → StoredRegion = λ r. r in
       let new : region_in ys p
       ≡ record { width = p.width; height = p.height; depth = p.depth; bytes = replicate (size_of p) 0 } =
       ap (λ (bytes : List ℕ). region (record { width = p.width; height = p.height; depth = p.depth; bytes = bytes }))
       zeros_here in
       let all : map (region_in ys) (extents ++ p ∷ []) ≡ map (region_in xs) extents
       ++ (record { width = p.width; height = p.height; depth = p.depth; bytes = replicate (size_of p) 0 }) ∷ [] =
-      map-append (region_in ys) extents (p ∷ []) ∙ ap (λ (rs : List Region). rs ++ region_in ys p ∷ []) old
-      ∙ ap (λ (r : Region). map (region_in xs) extents ++ r ∷ []) new in
+      map-append (region_in ys) extents (p ∷ []) ∙ ap (λ (rs : List StoredRegion). rs ++ region_in ys p ∷ []) old
+      ∙ ap (λ (r : StoredRegion). map (region_in xs) extents ++ r ∷ []) new in
       let free : length ys - (used + size_of p) ≡ length xs - used - size_of p = omega (arith, same) in
       (λ i. record { size = same i; regions = all i; free = free i })

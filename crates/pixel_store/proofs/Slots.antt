@@ -9,7 +9,7 @@ use Rattle.sub_base.specs.declared.depth.Depth.TheVariants.{Two}
 use Rattle.pixel_store.specs.Codes.{codes_in_byte, code_in}
 use Rattle.pixel_store.specs.Private.Extents.{stride_of, room_of, size_of, row_start, pixel, Fits}
 use Rattle.pixel_store.specs.Private.Painting.{PaintsRow, Fills}
-use Rattle.pixel_store.specs.Regions.{Region, code_of, row_of, blank, region_at, KeepsOthers, IsRunPainted, IsFilled, IsPackedRow, need_in}
+use Rattle.pixel_store.specs.Regions.{StoredRegion, code_of, row_of, blank, region_at, KeepsOthers, IsRunPainted, IsFilled, IsPackedRow, need_in}
 use Rattle.pixel_store.specs.Private.Stores.{region_in, regions_in, no_extent, extent_at, Adjoin, IsTidy, IsStore}
 use Rattle.pixel_store.proofs.Rows.{row_inside, column-below, wide_enough, other_row}
 
@@ -99,7 +99,7 @@ pub region_same : (xs ys : List ℕ) (p : Extent) → length ys ≡ length xs �
     ((i : ℕ) → p.offset ≤ i → i < p.offset + size_of p → get_or ys i 0 ≡ get_or xs i 0)
     → region_in ys p ≡ region_in xs p
 region_same xs ys p same inside each =
-    ap (λ (bytes : List ℕ). let region : Region = record {
+    ap (λ (bytes : List ℕ). let region : StoredRegion = record {
       width = p.width;
       height = p.height;
       depth = p.depth;
@@ -253,7 +253,7 @@ module _ (xs ys : List ℕ) (used : ℕ) (extents : List Extent) (k : ℕ) (is :
               ∙ sym (get_or-eq_default (map (region_in xs) extents) (blank 0 0 Two)
               (omega (arith, past, length-map extents (region_in xs))))
         ];
-        width = ap (λ (r : Region). r.width) new_here ∙ sym (ap (λ (r : Region). r.width) old_here);
-        height = ap (λ (r : Region). r.height) new_here ∙ sym (ap (λ (r : Region). r.height) old_here);
-        depth = ap (λ (r : Region). r.depth) new_here ∙ sym (ap (λ (r : Region). r.depth) old_here);
+        width = ap (λ (r : StoredRegion). r.width) new_here ∙ sym (ap (λ (r : StoredRegion). r.width) old_here);
+        height = ap (λ (r : StoredRegion). r.height) new_here ∙ sym (ap (λ (r : StoredRegion). r.height) old_here);
+        depth = ap (λ (r : StoredRegion). r.depth) new_here ∙ sym (ap (λ (r : StoredRegion). r.depth) old_here);
       }

@@ -8,7 +8,7 @@ use Rattle.pixel_store.specs.declared.extent.Extent.{Extent}
 use Rattle.pixel_store.specs.Codes.{codes_in_byte, code_in}
 use Rattle.pixel_store.specs.Private.Extents.{stride_of, room_of, size_of, row_start, pixel, Fits}
 use Rattle.pixel_store.specs.Private.Painting.{PaintsRow, Fills}
-use Rattle.pixel_store.specs.Regions.{Region, Regions, IsPlaced, region_at, code_of, blank, need_in, with_region, PlacesOne, KeepsOthers, IsFilled, IsRunPainted, IsPackedRow}
+use Rattle.pixel_store.specs.Regions.{StoredRegion, Regions, IsPlaced, region_at, code_of, blank, need_in, with_region, PlacesOne, KeepsOthers, IsFilled, IsRunPainted, IsPackedRow}
 use Rattle.pixel_store.specs.Private.Stores.{region_in, regions_in, extent_at, IsTidy, IsStore}
 use Rattle.pixel_store.proofs.Rows.{column-below, wide_enough, in_byte}
 use Rattle.pixel_store.proofs.Slots.{slot_fits, region_at_is, code_of-region, row_of-region, packed_row_is, row_untouched, still_tidy, run_painted, fill_painted, fill_tidy, needs_adjoin, window_at, changed_store, changed_others}
@@ -41,15 +41,16 @@ module _ (xs : List ℕ) (used : ℕ) (extents : List Extent) (store : Regions)
   pub code_read : (x y : ℕ) → x < (region_at store slot).width → y < (region_at store slot).height
       → pixel xs p x y ≡ code_of (region_at store slot) x y
   code_read x y column row =
-      sym (code_of-region xs p x y (omega (arith, subst (λ (r : Region). x < r.width) region_is column, wide_enough p))
-      (subst (λ (r : Region). y < r.height) region_is row))
-      ∙ ap (λ (r : Region). code_of r x y) (sym region_is)
+      sym (code_of-region xs p x y
+      (omega (arith, subst (λ (r : StoredRegion). x < r.width) region_is column, wide_enough p))
+      (subst (λ (r : StoredRegion). y < r.height) region_is row))
+      ∙ ap (λ (r : StoredRegion). code_of r x y) (sym region_is)
 
   pub row_read : (y : ℕ) → y < (region_at store slot).height →
       IsPackedRow (region_at store slot) y (slice_range xs (row_start p y) (row_start p y + stride_of p))
   row_read y row =
-      let below : y < p.height = subst (λ (r : Region). y < r.height) region_is row in
-      subst (λ (r : Region). IsPackedRow r y (slice_range xs (row_start p y) (row_start p y + stride_of p)))
+      let below : y < p.height = subst (λ (r : StoredRegion). y < r.height) region_is row in
+      subst (λ (r : StoredRegion). IsPackedRow r y (slice_range xs (row_start p y) (row_start p y + stride_of p)))
       (sym region_is)
       (subst (IsPackedRow (region_in xs p) y) (row_of-region xs p y extent_fits below)
       (packed_row_is xs p y extent_fits tidy_here below))
@@ -96,7 +97,7 @@ module _ (xs : List ℕ) (used : ℕ) (extents : List Extent) (store : Regions)
       let tidy = still_tidy p y from to code xs ys (omega (arith, to_is)) paints tidy_here in (
         still_store ys same untouched tidy,
         others_kept ys same untouched tidy,
-        subst (λ (r : Region). IsRunPainted x y count code r (region_at (regions_in ys used extents) slot))
+        subst (λ (r : StoredRegion). IsRunPainted x y count code r (region_at (regions_in ys used extents) slot))
             (sym region_is)
             (subst (IsRunPainted x y count code (region_in xs p)) (region_now ys same untouched tidy)
             (run_painted p x y count from to code xs ys row from_is to_is paints)),
@@ -138,7 +139,7 @@ places_one width height depth slot old new at room is =
       kept = λ other placed. get_or_append_left old.regions (region ∷ []) (blank 0 0 Two) other placed;
       placed = new_here;
       zeros =
-          λ x y column row. ap (λ (r : Region). code_of r x y) new_here
+          λ x y column row. ap (λ (r : StoredRegion). code_of r x y) new_here
           ∙ blank_code width height depth x y column row;
       size = refl;
       free = omega (arith, room);

@@ -1,58 +1,58 @@
 -- What a store has after any calls since its last reset: each code is that of the last call that covers its pixel.
 use Rattle.std.specs.Prelude.{◌≡◌, ℕ, ◌+◌, ◌<◌, ◌==◌, ◌&&◌, nat_le, nat_lt, Bool, true, false, List, ◌∷◌, length, find, filter, sum_by, Option, Some, None}
 use Rattle.sub_base.specs.declared.depth.Depth.{Depth}
-use Rattle.pixel_store.specs.Regions.{Region, Regions, IsPlaced, region_at, code_of}
+use Rattle.pixel_store.specs.Regions.{StoredRegion, Regions, IsPlaced, region_at, code_of}
 use Rattle.sub_base.specs.Depth.{pixel_bytes}
 
 -- a call of a store that gave codes to pixels of a slot: a region of that width, height and depth was placed there, it
 -- was filled with a code, or a run was painted: its first column, its row, how many pixels it has, its code
-pub data Call : Type 0 where
-  Place : ℕ → ℕ → ℕ → Depth → Call
-  Fill : ℕ → ℕ → Call
-  PaintRun : ℕ → ℕ → ℕ → ℕ → ℕ → Call
+pub data StoreCall : Type 0 where
+  Place : ℕ → ℕ → ℕ → Depth → StoreCall
+  Fill : ℕ → ℕ → StoreCall
+  PaintRun : ℕ → ℕ → ℕ → ℕ → ℕ → StoreCall
 
 -- the call covers the pixel in column x of row y of a slot
-abbrev pub covers : ℕ → ℕ → ℕ → Call → Bool
+abbrev pub covers : ℕ → ℕ → ℕ → StoreCall → Bool
 covers slot x y (Place placed width height depth) = placed == slot
 covers slot x y (Fill filled code) = filled == slot
 covers slot x y (PaintRun painted left row count code) =
     (painted == slot) && ((row == y) && (nat_le left x && nat_lt x (left + count)))
 
 -- the code that it gives: 0 where a region is placed
-abbrev pub code_given : Option Call → ℕ
+abbrev pub code_given : Option StoreCall → ℕ
 code_given None = 0
 code_given (Some (Place slot width height depth)) = 0
 code_given (Some (Fill slot code)) = code
 code_given (Some (PaintRun slot left row count code)) = code
 
 -- the code of the last call that covers the pixel; the calls stand in a list, the latest first
-abbrev pub last_write : ℕ → ℕ → ℕ → List Call → ℕ
+abbrev pub last_write : ℕ → ℕ → ℕ → List StoreCall → ℕ
 last_write slot x y past = code_given (find (covers slot x y) past)
 
-abbrev pub is_place : Call → Bool
+abbrev pub is_place : StoreCall → Bool
 is_place (Place placed width height depth) = true
 is_place (Fill filled code) = false
 is_place (PaintRun painted left row count code) = false
 
-abbrev pub is_place_of : ℕ → Call → Bool
+abbrev pub is_place_of : ℕ → StoreCall → Bool
 is_place_of slot (Place placed width height depth) = placed == slot
 is_place_of slot (Fill filled code) = false
 is_place_of slot (PaintRun painted left row count code) = false
 
 -- the bytes that the call takes
-abbrev pub bytes_taken : Call → ℕ
+abbrev pub bytes_taken : StoreCall → ℕ
 bytes_taken (Place slot width height depth) = pixel_bytes width height depth
 bytes_taken (Fill slot code) = 0
 bytes_taken (PaintRun slot left row count code) = 0
 
 -- the call that places such a region
-abbrev pub placing : ℕ → Region → Call
+abbrev pub placing : ℕ → StoredRegion → StoreCall
 placing slot region = Place slot region.width region.height region.depth
 
 -- the store is one after these calls since its last reset, the latest first: it has the regions that they placed, with
 -- their sides and depths; each pixel has the code of the last write to it; and what is free and what they took is the
 -- whole store
-pub record IsAfter (past : List Call) (store : Regions) : Type 0 where
+pub record IsAfter (past : List StoreCall) (store : Regions) : Type 0 where
   pub count : length store.regions ≡ length (filter is_place past)
   pub placed : (slot : ℕ) → IsPlaced store slot
       → find (is_place_of slot) past ≡ Some (placing slot (region_at store slot))
@@ -62,5 +62,5 @@ pub record IsAfter (past : List Call) (store : Regions) : Type 0 where
   pub bytes : store.free + sum_by bytes_taken past ≡ store.size
 
 -- whatever the calls before were, the new store is one after them and this one
-abbrev pub Follows : Call → Regions → Regions → Type 0
-Follows call old new = (past : List Call) → IsAfter past old → IsAfter (call ∷ past) new
+abbrev pub FollowsCall : StoreCall → Regions → Regions → Type 0
+FollowsCall call old new = (past : List StoreCall) → IsAfter past old → IsAfter (call ∷ past) new

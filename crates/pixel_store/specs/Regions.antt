@@ -6,43 +6,43 @@ use Rattle.pixel_store.specs.Codes.{packed_code, codes_in_byte}
 use Rattle.sub_base.specs.Depth.{packed_length, pixel_bytes}
 
 -- a region: its sides in pixels, its depth, and its packed rows, one after another
-pub record Region : Type 0 where
+pub record StoredRegion : Type 0 where
   pub width : ℕ
   pub height : ℕ
   pub depth : Depth
   pub bytes : List ℕ
 
 -- how many bytes a row has
-abbrev pub row_length : Region → ℕ
+abbrev pub row_length : StoredRegion → ℕ
 row_length region = packed_length region.depth region.width
 
 -- the packed bytes of a row
-abbrev pub row_of : Region → ℕ → List ℕ
+abbrev pub row_of : StoredRegion → ℕ → List ℕ
 row_of region y = slice_range region.bytes (y * row_length region) (y * row_length region + row_length region)
 
 -- the code in column x of row y
-abbrev pub code_of : Region → ℕ → ℕ → ℕ
+abbrev pub code_of : StoredRegion → ℕ → ℕ → ℕ
 code_of region x y = packed_code region.depth (row_of region y) x
 
-abbrev pub need_in : Region → ℕ
+abbrev pub need_in : StoredRegion → ℕ
 need_in region = pixel_bytes region.width region.height region.depth
 
 -- a region of zeros
-abbrev pub blank : ℕ → ℕ → Depth → Region
+abbrev pub blank : ℕ → ℕ → Depth → StoredRegion
 blank width height depth =
     record { width = width; height = height; depth = depth; bytes = replicate (pixel_bytes width height depth) 0 }
 
 -- a store: its bytes, the regions in it, each named by its index, and the bytes that no region takes
 pub record Regions : Type 0 where
   pub size : ℕ
-  pub regions : List Region
+  pub regions : List StoredRegion
   pub free : ℕ
 
 -- a slot is the index of a region that is placed
 abbrev pub IsPlaced : Regions → ℕ → Type 0
 IsPlaced store slot = slot < length store.regions
 
-abbrev pub region_at : Regions → ℕ → Region
+abbrev pub region_at : Regions → ℕ → StoredRegion
 region_at store slot = slice_index_or store.regions slot (blank 0 0 Two)
 
 -- a store of so many bytes without a region
@@ -84,12 +84,12 @@ pub record KeepsOthers (slot : ℕ) (old new : Regions) : Type 0 where
   pub free : new.free ≡ old.free
 
 -- every pixel of the region has that code
-abbrev pub IsFilled : ℕ → Region → Type 0
+abbrev pub IsFilled : ℕ → StoredRegion → Type 0
 IsFilled code region = (x y : ℕ) → x < region.width → y < region.height → code_of region x y ≡ code
 
 -- the pixels of row `row` from column `left` on, `count` of them as far as the region has them, have that code, and all
 -- others are as they were
-pub record IsRunPainted (left row count code : ℕ) (old new : Region) : Type 0 where
+pub record IsRunPainted (left row count code : ℕ) (old new : StoredRegion) : Type 0 where
   pub covered : (x : ℕ) → x < old.width → row < old.height → left ≤ x → x < left + count
       → code_of new x row ≡ code
   pub outside : (x y : ℕ) → x < old.width → y < old.height → (y ≢ row)
@@ -97,7 +97,7 @@ pub record IsRunPainted (left row count code : ℕ) (old new : Region) : Type 0 
       code_of new x y ≡ code_of old x y
 
 -- packed bytes have the codes of a row of the region, and behind the last of them zeros
-pub record IsPackedRow (region : Region) (y : ℕ) (bytes : List ℕ) : Type 0 where
+pub record IsPackedRow (region : StoredRegion) (y : ℕ) (bytes : List ℕ) : Type 0 where
   pub whole : length bytes ≡ row_length region
   pub codes : (x : ℕ) → x < region.width → packed_code region.depth bytes x ≡ code_of region x y
   pub zeros : (x : ℕ) → region.width ≤ x → x < length bytes * codes_in_byte region.depth

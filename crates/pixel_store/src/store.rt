@@ -2,7 +2,7 @@ ghost use Rattle.std.specs.Prelude.{◌≡◌, ◌+◌, ◌<◌, ◌≤◌, List
 ghost use Rattle.sub_base.specs.Depth.{code_count, pixel_bytes};
 ghost use Rattle.pixel_store.specs.Regions.{IsPlaced, region_at, code_of, no_regions, need_in, with_region};
 ghost use Rattle.pixel_store.specs.Regions.{IsOver, PlacesOne, KeepsOthers, IsFilled, IsRunPainted, IsPackedRow};
-ghost use Rattle.pixel_store.specs.Calls.{Call, Place, Fill, PaintRun, last_write, IsAfter, Follows};
+ghost use Rattle.pixel_store.specs.Calls.{StoreCall, Place, Fill, PaintRun, last_write, IsAfter, FollowsCall};
 ghost use Rattle.pixel_store.specs.Private.Stores.{extent_at as extent_of};
 
 use crate::extent::{Extent, clear, code_at, fill_rows, packed_row, paint_row, size};
@@ -85,7 +85,7 @@ impl Store {
             (λ slot. self.new ≡ with_region width height depth self.old) }
         ensures slot { IfOk result (λ slot. PlacesOne width height depth slot self.old self.new) }
         ensures after { IfOk result
-            (λ slot. Follows (Place slot width height depth) self.old self.new) }
+            (λ slot. FollowsCall (Place slot width height depth) self.old self.new) }
         ensures succeeds { pixel_bytes width height depth ≤ self.old.free → IsOk result }
         ensures full { IfErr result
             (λ full. IsOver width height depth self.old full.need full.free) }
@@ -120,7 +120,7 @@ impl Store {
         requires code { code < code_count (region_at self.old slot).depth }
         ensures others { KeepsOthers slot self.old self.new }
         ensures filled { IsFilled code (region_at self.new slot) }
-        ensures after { Follows (Fill slot code) self.old self.new }
+        ensures after { FollowsCall (Fill slot code) self.old self.new }
     {
         let extent = extent_at(&self.extents, slot);
         fill_rows(&mut self.bytes, extent, code);
@@ -133,7 +133,7 @@ impl Store {
         ensures others { KeepsOthers slot self.old self.new }
         ensures painted { IsRunPainted x y length code (region_at self.old slot)
             (region_at self.new slot) }
-        ensures after { Follows (PaintRun slot x y length code) self.old self.new }
+        ensures after { FollowsCall (PaintRun slot x y length code) self.old self.new }
     {
         let extent = extent_at(&self.extents, slot);
         if y < u32::from(extent.height) {
@@ -150,7 +150,7 @@ impl Store {
         requires x { x < (region_at self.now slot).width }
         requires y { y < (region_at self.now slot).height }
         ensures code { result ≡ code_of (region_at self.now slot) x y }
-        ensures last { (past : List Call) → IsAfter past self.now
+        ensures last { (past : List StoreCall) → IsAfter past self.now
             → result ≡ last_write slot x y past }
     {
         code_at(&self.bytes, extent_at(&self.extents, slot), x, y)

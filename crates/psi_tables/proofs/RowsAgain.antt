@@ -10,7 +10,7 @@ use Rattle.segments.proofs.Bits.{bits_of-cons, bits_of-two, no_bits, take_byte, 
 use Rattle.segments.proofs.Objects.{Split, bytes_again}
 use Rattle.segments.proofs.Shapes.{AreBytes, AreBytes-drop, fields_bytes, take_r4_12}
 use Rattle.psi_tables.specs.Layout.{AreDescriptors, descriptor_bytes, entry_rows, stream_rows}
-use Rattle.psi_tables.specs.Loops.{Descriptor, Entry, Stream, are_descriptors, are_streams, descriptors_of, entries_of, stream_size, streams_of}
+use Rattle.psi_tables.specs.Loops.{Descriptor, PatEntry, Stream, are_descriptors, are_streams, descriptors_of, entries_of, stream_size, streams_of}
 use Rattle.psi_tables.proofs.LoopLaws.{are_descriptors-more, are_streams-more, descriptors_more, streams_more}
 use Rattle.psi_tables.proofs.RowsLaid.{Laid}
 
@@ -43,7 +43,7 @@ AreBytes_behind front more all parts small =
 
 -- ---- entries
 
-pub record EntriesAgain (entries : List Entry) (all : List ℕ) (fields : List Field) : Type 0 where
+pub record EntriesAgain (entries : List PatEntry) (all : List ℕ) (fields : List Field) : Type 0 where
   pub body : List ℕ
   pub more : List ℕ
   pub parts : all ≡ body ++ more
@@ -51,11 +51,11 @@ pub record EntriesAgain (entries : List Entry) (all : List ℕ) (fields : List F
   pub size : length body ≡ 4 * length entries
   pub has : Laid fields more
 
-same-entry : (entry : Entry) (n p : ℕ) → n ≡ entry.number → p ≡ entry.pid
+same-entry : (entry : PatEntry) (n p : ℕ) → n ≡ entry.number → p ≡ entry.pid
     → record { number = n; pid = p } ≡ entry
 same-entry entry n p e f = rw (e, f) refl
 
-pub entries_again : (entries : List Entry) (all : List ℕ) (fields : List Field) → AreBytes all
+pub entries_again : (entries : List PatEntry) (all : List ℕ) (fields : List Field) → AreBytes all
     → Laid (flat_map entry_rows entries ++ fields) all
     → EntriesAgain entries all fields
 entries_again [] all fields small has =

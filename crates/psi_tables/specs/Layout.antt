@@ -6,13 +6,13 @@ use Rattle.stream_syntax.specs.Fields.{Field, FitsFields, HasFields, number, res
 use Rattle.stream_syntax.specs.PixelCodes.{bits_of}
 use Rattle.stream_syntax.specs.Segments.{bytes_fields}
 use Rattle.psi_tables.specs.Crc.{crc_of}
-use Rattle.psi_tables.specs.Loops.{Descriptor, Entry, Stream, entries_of, stream_size, streams_of}
+use Rattle.psi_tables.specs.Loops.{Descriptor, PatEntry, Stream, entries_of, stream_size, streams_of}
 use Rattle.psi_tables.specs.Sections.{SectionValue, Pat, Pmt}
 
 -- a table: a PAT with its stream's id and its entries; or a PMT with its service's number, its PCR PID, the bytes of
 -- its own descriptors, and its streams
 pub data Table : Type 0 where
-  pat_table : ℕ → List Entry → Table
+  pat_table : ℕ → List PatEntry → Table
   pmt_table : ℕ → ℕ → List ℕ → List Stream → Table
 
 -- ---- descriptors
@@ -34,7 +34,7 @@ HasDescriptors (pmt_table service pcr descriptors streams) =
 -- ---- rows of bits
 
 -- program_number, reserved, and network_PID or program_map_PID
-abbrev pub entry_rows : Entry → List Field
+abbrev pub entry_rows : PatEntry → List Field
 entry_rows entry = number 16 entry.number ∷ reserved 3 ∷ number 13 entry.pid ∷ []
 
 -- stream_type, reserved, elementary_PID, reserved, ES_info_length, descriptors

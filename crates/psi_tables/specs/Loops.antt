@@ -14,12 +14,12 @@ thirteen_at place bytes = word_at place bytes % 2 ^ 13
 -- ---- entries
 
 -- an entry of a PAT: the number of a service (program_number), and the PID of its PMT (program_map_PID)
-pub record Entry : Type 0 where
+pub record PatEntry : Type 0 where
   pub number : ℕ
   pub pid : ℕ
 
 -- the entries in bytes, four bytes each
-abbrev pub entries_of : List ℕ → List Entry
+abbrev pub entries_of : List ℕ → List PatEntry
 entries_of (a ∷ b ∷ c ∷ d ∷ rest) =
     record { number = a * 256 + b; pid = (c * 256 + d) % 2 ^ 13 } ∷ entries_of rest
 entries_of rest = []

@@ -6,15 +6,15 @@ use Rattle.stream_syntax.specs.PixelBlocks.{Part}
 use Rattle.stream_syntax.specs.SegmentTests.{IsSegmentFault}
 use Rattle.stream_syntax.specs.Segments.{SegmentValue, of_page, of_region, of_clut, of_object, of_display, end_of_set, passed_over, IsSegment}
 use Rattle.stream_syntax.specs.declared.segment_fault.SegmentFault.{SegmentFault}
-use Rattle.decoder_model.specs.Readings.{Content, Reading, read, faulty, AreFields, IsContent, IsReading, AreReadings, IsDeliveryRead, AreDeliveriesRead}
+use Rattle.decoder_model.specs.Readings.{Content, Reading, read, faulty, AreObjectFields, IsContent, IsReading, AreReadings, IsDeliveryRead, AreDeliveriesRead}
 use Rattle.decoder_model.specs.Sets.{Delivery, lost, whole, refused}
 use Rattle.pixel_codes.proofs.OneBlock.{one_block}
 use Rattle.segments.proofs.Readings.{no_fault_there, same_segment_fault, one_reading}
 
 -- ---- contents
 
-one_field_pair : (value : SegmentValue) (top bottom top' bottom' : List Part) → AreFields value top bottom
-    → AreFields value top' bottom' → (top ≡ top') × (bottom ≡ bottom')
+one_field_pair : (value : SegmentValue) (top bottom top' bottom' : List Part) → AreObjectFields value top bottom
+    → AreObjectFields value top' bottom' → (top ≡ top') × (bottom ≡ bottom')
 one_field_pair (of_page value) top bottom top' bottom' h k = (h.0 ∙ sym k.0, h.1 ∙ sym k.1)
 one_field_pair (of_region value) top bottom top' bottom' h k = (h.0 ∙ sym k.0, h.1 ∙ sym k.1)
 one_field_pair (of_clut value) top bottom top' bottom' h k = (h.0 ∙ sym k.0, h.1 ∙ sym k.1)
@@ -32,7 +32,7 @@ one_content bytes one other h k =
     (one_reading bytes bytes [] [] one.value other.value h.segment k.segment refl).1 in
     let fields =
     one_field_pair other.value one.top one.bottom other.top other.bottom
-    (subst (λ (v : SegmentValue). AreFields v one.top one.bottom) value h.fields) k.fields in
+    (subst (λ (v : SegmentValue). AreObjectFields v one.top one.bottom) value h.fields) k.fields in
     λ i. record { value = value i; top = fields.0 i; bottom = fields.1 i }
 
 -- and are not refused for a fault too

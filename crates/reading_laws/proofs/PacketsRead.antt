@@ -3,12 +3,10 @@ use Rattle.std.proofs.Common.{ℕ, ◌<◌, Bool, List, [], ◌∷◌, reverse, 
 use Rattle.std.specs.List.{AllByRecursion}
 use Rattle.std.proofs.lemmas.List.{reverse-append}
 use Rattle.std.proofs.lemmas.List.Elements.{recursion_from_All}
-use Rattle.sub_base.specs.declared.profile.Profile.{Profile}
-use Rattle.decoder_model.specs.declared.pages.Pages.{Pages}
 use Rattle.decoder_model.specs.Readings.{Reading, AreReadings, IsDeliveryRead, AreDeliveriesRead}
-use Rattle.decoder_model.specs.Received.{HasReceived}
+use Rattle.decoder_model.specs.Received.{HasReceived, Reception, sets_received}
 use Rattle.decoder_model.proofs.Lists.{all-append}
-use Rattle.decoder_model.specs.Sets.{Delivery, lost, whole, refused, sets_of}
+use Rattle.decoder_model.specs.Sets.{Delivery, lost, whole, refused}
 use Rattle.reading_laws.proofs.ReceivedBytes.{OfBytes}
 use Rattle.decoder_model.proofs.ReceivedSegments.{DeliveryHas}
 use Rattle.reading_laws.proofs.ReceivedSets.{IsWhole, received_whole}
@@ -44,10 +42,11 @@ all_reversed P (x ∷ xs) h =
     subst (AllByRecursion P) (sym (reverse-append (x ∷ []) xs))
     (all-append P (reverse xs) (x ∷ []) (all_reversed P xs h.1) (h.0, tt))
 
-pub packets_read : (profile : Profile) (pid : ℕ) (pages : Pages) (ended : Bool) (packets : List (List ℕ))
+pub packets_read : (reception : Reception) (ended : Bool) (packets : List (List ℕ))
     → All (λ (packet : List ℕ). All (λ (byte : ℕ). byte < 256) packet) packets
-    → (past : List (Delivery Reading)) × HasReceived profile pid pages ended packets past
-packets_read profile pid pages ended packets h =
-    deliveries_read (reverse (sets_of profile.coded pid pages ended packets))
-    (all_reversed (DeliveryHas IsWhole) (sets_of profile.coded pid pages ended packets)
-    (received_whole profile.coded pid pages ended packets (recursion_from_All OfBytes packets h)))
+    → (past : List (Delivery Reading)) × HasReceived reception ended packets past
+packets_read reception ended packets h =
+    deliveries_read (reverse (sets_received reception ended packets))
+    (all_reversed (DeliveryHas IsWhole) (sets_received reception ended packets)
+    (received_whole reception.profile.coded reception.pid reception.pages ended packets
+    (recursion_from_All OfBytes packets h)))

@@ -11,7 +11,7 @@ use Rattle.stream_syntax.specs.Segments.{SegmentValue, of_page, of_region, of_cl
 use Rattle.stream_syntax.specs.Tests.{byte_at, word_at, first_fault}
 use Rattle.stream_syntax.specs.declared.code_fault.CodeFault.{CodeFault}
 use Rattle.stream_syntax.specs.declared.segment_fault.SegmentFault.{SegmentFault}
-use Rattle.decoder_model.specs.Readings.{Reading, read, faulty, AreFields, IsReading}
+use Rattle.decoder_model.specs.Readings.{Reading, read, faulty, AreObjectFields, IsReading}
 use Rattle.decoder_model.specs.Received.{IsFramed}
 use Rattle.segments.specs.Reading.{value_in}
 use Rattle.segments.proofs.WholeSegments.{is_segment}
@@ -61,7 +61,7 @@ by_blocks top bottom (inl (parts, are)) (inl (others, are_too)) =
 -- a body of another type than that of an object has no sub-blocks
 no_fields : (value : SegmentValue) (kind : ℕ) (fields : List Field) → IsBody value kind fields
     → (kind ≡ 19 → ⊥)
-    → AreFields value [] []
+    → AreObjectFields value [] []
 no_fields (of_page value) kind fields is other = (refl, refl)
 no_fields (of_region value) kind fields is other = (refl, refl)
 no_fields (of_clut value) kind fields is other = (refl, refl)
@@ -72,9 +72,9 @@ no_fields passed_over kind fields is other = (refl, refl)
 
 -- an object has those of its blocks
 object_fields_are : (kind : ℕ) (body : List ℕ) (parts : HaveParts (top_in body) (bottom_in body)) → kind ≡ 19
-    → AreFields (value_in kind body) parts.top_parts parts.bottom_parts
+    → AreObjectFields (value_in kind body) parts.top_parts parts.bottom_parts
 object_fields_are kind body parts is =
-    subst (λ (known : ℕ). AreFields (value_in known body) parts.top_parts parts.bottom_parts) (sym is)
+    subst (λ (known : ℕ). AreObjectFields (value_in known body) parts.top_parts parts.bottom_parts) (sym is)
     (parts.top_are, parts.bottom_are)
 
 all_bytes : (bytes : List ℕ) → All (λ (byte : ℕ). byte < 256) bytes → AreBytes bytes

@@ -3,14 +3,12 @@ use Rattle.std.proofs.Common.{◌≡◌, ℕ, zero, suc, true, List, [], ◌∷�
 use Rattle.std.proofs.lemmas.Bool.Decides.{nat_tests}
 use Rattle.std.specs.List.{list_all}
 use Rattle.std.proofs.lemmas.List.Elements.{All-nil, All-cons}
-use Rattle.sub_base.specs.Profile.{profile_of}
 use Rattle.sub_base.specs.declared.depth.Depth.TheVariants.{Two, Eight}
 use Rattle.sub_base.specs.declared.profile.ProfileName.TheVariants.{Sd}
 use Rattle.stream_syntax.specs.PixelBlocks.{string, line_end, AreParts}
 use Rattle.stream_syntax.specs.PixelCodes.{bits, bits_of, spelled, ending, pixel, IsCode}
-use Rattle.decoder_model.specs.Frames.{only}
 use Rattle.decoder_model.specs.Readings.{read, IsContent, AreDeliveriesRead}
-use Rattle.decoder_model.specs.Received.{HasReceived, IsFramed}
+use Rattle.decoder_model.specs.Received.{HasReceived, IsFramed, for_page}
 use Rattle.decoder_model.specs.Sets.{whole}
 use Rattle.decoder_model.specs.UsualEncoder.{usual_packet, usual_segments, usual_page, usual_region, usual_object, usual_end, usual_contents, usual_delivery, IsUsualSetShown}
 use Rattle.stream_syntax.specs.SegmentTests.{body_tests, body_of, top_in, bottom_in, AreBlocks}
@@ -123,7 +121,7 @@ end_is =
 -- ---- its packet
 
 pub usual_read : IsUsualSetShown
-    → HasReceived (profile_of Sd) 256 (only 1) true (usual_packet ∷ []) (usual_delivery ∷ [])
+    → HasReceived (for_page Sd 256 1 0) true (usual_packet ∷ []) (usual_delivery ∷ [])
 unfolding usual_segments usual_delivery
 usual_read shown =
     subst (λ sets. AreDeliveriesRead (reverse sets) (usual_delivery ∷ [])) (sym shown.set) (

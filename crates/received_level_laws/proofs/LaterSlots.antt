@@ -16,6 +16,7 @@ use Rattle.decoder_model.specs.Kept.{lifted_time}
 use Rattle.decoder_model.specs.PacketArrivals.{PacketArrival, packet_arrival, is_break}
 use Rattle.decoder_model.specs.Painting.{set_load}
 use Rattle.decoder_model.specs.Readings.{Reading}
+use Rattle.decoder_model.specs.Received.{Reception}
 use Rattle.decoder_model.specs.Sets.{Delivery}
 use Rattle.received_level_laws.specs.StreamCalls.{call_by, set_call, set_calls, count_with, itself, drop_where, arrived_in, calls_of_packet, calls_from, AreCallsOf}
 
@@ -132,22 +133,23 @@ map_reverse f (x ∷ xs) =
     ∙ ap (λ l. l ++ f x ∷ []) (map_reverse f xs) ∙ sym (reverse-append (f x ∷ []) (map f xs))
 
 -- the calls that packets give from slot 0 on are, moved, those that they give from a later slot on
-pub told_later : (profile : Profile) (pid : ℕ) (pages : Pages) (anchor by : ℕ) (ended : Bool)
+pub told_later : (reception : Reception) (by : ℕ) (ended : Bool)
     (packets : List (List ℕ)) (calls : List Call)
-    → AreCallsOf profile pid pages anchor 0 ended packets calls
-    → AreCallsOf profile pid pages anchor by ended packets (moved by calls)
-told_later profile pid pages anchor by ended packets calls given =
-    let sets = set_calls profile anchor (reverse given.past) in
-    let taken = packets_taken pid packets in
+    → AreCallsOf reception 0 ended packets calls
+    → AreCallsOf reception by ended packets (moved by calls)
+told_later reception by ended packets calls given =
+    let sets = set_calls reception.profile reception.anchor (reverse given.past) in
+    let taken = packets_taken reception.pid packets in
     record {
       past = given.past;
       received = given.received;
       are =
           moved_is by calls ∙ ap (map (shifted by)) given.are
-          ∙ map_reverse (shifted by) (calls_from itself profile.coded pid pages 0 [] taken sets)
+          ∙ map_reverse (shifted by)
+          (calls_from itself reception.profile.coded reception.pid reception.pages 0 [] taken sets)
           ∙ ap reverse
-          (sym (calls_later profile.coded pid pages by 0 [] taken sets
-          (sets_same by profile anchor (with_earlier [] (reverse given.past))))
-          ∙ ap (λ (at : ℕ). calls_from itself profile.coded pid pages at [] taken sets)
+          (sym (calls_later reception.profile.coded reception.pid reception.pages by 0 [] taken sets
+          (sets_same by reception.profile reception.anchor (with_earlier [] (reverse given.past))))
+          ∙ ap (λ (at : ℕ). calls_from itself reception.profile.coded reception.pid reception.pages at [] taken sets)
           (let same : 0 + by ≡ by = omega arith in same));
     }

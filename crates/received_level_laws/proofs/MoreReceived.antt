@@ -3,13 +3,12 @@ use Rattle.std.proofs.Common.{◌≡◌, ◌∙◌, ℕ, Bool, true, false, List
 use Rattle.std.specs.Prelude.{find}
 use Rattle.std.proofs.lemmas.List.{reverse-append}
 use Rattle.sub_base.specs.Lists.{prefixes}
-use Rattle.sub_base.specs.declared.profile.Profile.{Profile}
 use Rattle.stream_syntax.specs.DataField.{Frame}
 use Rattle.stream_syntax.specs.TransportPackets.{packet_fault}
 use Rattle.decoder_model.specs.declared.pages.Pages.{Pages}
 use Rattle.decoder_model.specs.Arrivals.{PesUnit, arrivals_of, packets_taken}
 use Rattle.decoder_model.specs.Readings.{Reading, AreDeliveriesRead}
-use Rattle.decoder_model.specs.Received.{HasReceived}
+use Rattle.decoder_model.specs.Received.{HasReceived, Reception, sets_received}
 use Rattle.decoder_model.specs.Sets.{Stretch, loss_between, run, runs_of, Delivery, lost, has_ended, sets_of, is_ended, frames_in, set_of, is_followed, sets_in}
 use Rattle.decoder_model.proofs.Growth.{packets_add}
 use Rattle.decoder_model.proofs.Lists.{all-append}
@@ -76,36 +75,37 @@ read_behind (delivery ∷ front) behind (one ∷ all) h =
     let rest =
     read_behind front behind all h.1 in (one ∷ rest.0, rest.1, ap (λ others. one ∷ others) rest.2, rest.3)
 
-more_than : (profile : Profile) (pid : ℕ) (pages : Pages) (packets : List (List ℕ))
+more_than : (reception : Reception) (packets : List (List ℕ))
     (sets added : List (Delivery (List ℕ)))
     (all : List (Delivery Reading))
-    → sets ≡ sets_of profile.coded pid pages false packets ++ added → AreDeliveriesRead (reverse sets) all
-    → IsMoreThan profile pid pages packets all
-more_than profile pid pages packets sets added all is read =
-    let front = sets_of profile.coded pid pages false packets in
+    → sets ≡ sets_received reception false packets ++ added → AreDeliveriesRead (reverse sets) all
+    → IsMoreThan reception packets all
+more_than reception packets sets added all is read =
+    let front = sets_received reception false packets in
     let found = read_behind (reverse added) (reverse front) all
     (subst (λ (turned : List (Delivery (List ℕ))). AreDeliveriesRead turned all)
     (ap reverse is ∙ reverse-append front added) read) in
     record { more = found.0; past = found.1; joined = found.2; received = found.3 }
 
 -- with one packet more
-pub packet_receives_more : (profile : Profile) (pid : ℕ) (pages : Pages) (packets : List (List ℕ))
+pub packet_receives_more : (reception : Reception) (packets : List (List ℕ))
     (packet : List ℕ)
     (all : List (Delivery Reading))
-    → packets_taken pid packets ≡ packets → packet_fault pid packet ≡ None
-    → HasReceived profile pid pages false (packets ++ packet ∷ []) all → IsMoreThan profile pid pages packets all
-packet_receives_more profile pid pages packets packet all taken sound received =
-    let longer = all_taken pid (packets ++ packet ∷ [])
-    (all-append (λ packet. packet_fault pid packet ≡ None) packets (packet ∷ []) (sound_taken pid packets taken)
+    → packets_taken reception.pid packets ≡ packets → packet_fault reception.pid packet ≡ None
+    → HasReceived reception false (packets ++ packet ∷ []) all → IsMoreThan reception packets all
+packet_receives_more reception packets packet all taken sound received =
+    let longer = all_taken reception.pid (packets ++ packet ∷ [])
+    (all-append (λ packet. packet_fault reception.pid packet ≡ None) packets (packet ∷ [])
+    (sound_taken reception.pid packets taken)
     (sound, tt)) in
-    let added = packets_add profile.coded pid pages packets (packet ∷ []) taken longer in
-    more_than profile pid pages packets (sets_of profile.coded pid pages false (packets ++ packet ∷ [])) added.0 all
+    let added = packets_add reception.profile.coded reception.pid reception.pages packets (packet ∷ []) taken longer in
+    more_than reception packets (sets_received reception false (packets ++ packet ∷ [])) added.0 all
     added.1 received
 
 -- with the end of the stream
-pub end_receives_more : (profile : Profile) (pid : ℕ) (pages : Pages) (packets : List (List ℕ))
+pub end_receives_more : (reception : Reception) (packets : List (List ℕ))
     (all : List (Delivery Reading))
-    → HasReceived profile pid pages true packets all → IsMoreThan profile pid pages packets all
-end_receives_more profile pid pages packets all received =
-    let added = end_adds profile.coded pid pages packets in
-    more_than profile pid pages packets (sets_of profile.coded pid pages true packets) added.0 all added.1 received
+    → HasReceived reception true packets all → IsMoreThan reception packets all
+end_receives_more reception packets all received =
+    let added = end_adds reception.profile.coded reception.pid reception.pages packets in
+    more_than reception packets (sets_received reception true packets) added.0 all added.1 received

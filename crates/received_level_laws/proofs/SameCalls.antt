@@ -23,7 +23,7 @@ map_all_of {Y = Y} f (set ∷ sets) = map-append f set (all_of sets)
     ∙ ap {B = List Y} (λ rest. map f set ++ rest) (map_all_of f sets)
 
 -- the calls of a packet
-same_of_packet : {X Y : Type 0} (f : X → Y) (of : Call → X) (event : Event) (arrival : PacketArrival) (slot : ℕ)
+pub same_of_packet : {X Y : Type 0} (f : X → Y) (of : Call → X) (event : Event) (arrival : PacketArrival) (slot : ℕ)
     (sets : List X)
     → map f (calls_of_packet of event arrival slot sets) ≡ calls_of_packet (λ call. f (of call)) event arrival slot
     (map f sets)

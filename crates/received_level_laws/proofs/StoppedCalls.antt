@@ -3,13 +3,13 @@ use Rattle.std.proofs.Common.{◌≡◌, ◌∙◌, ℕ, suc, ◌+◌, Bool, tru
 use Rattle.std.specs.Prelude.{flat_map}
 use Rattle.std.specs.List.{list_all, prefix_len}
 use Rattle.std.specs.Option.{is_none}
-use Rattle.sub_base.specs.declared.profile.Profile.{Profile}
 use Rattle.stream_syntax.specs.TransportPackets.{packet_fault}
 use Rattle.stream_syntax.specs.Units.{each_after}
 use Rattle.stream_syntax.specs.declared.transport.PacketFault.{PacketFault}
 use Rattle.decoder_model.specs.declared.pages.Pages.{Pages}
 use Rattle.decoder_model.specs.Arrivals.{Arrival, arrivals_at, packets_taken, arrivals_of}
 use Rattle.decoder_model.specs.Readings.{AreDeliveriesRead}
+use Rattle.decoder_model.specs.Received.{Reception}
 use Rattle.decoder_model.specs.Sets.{Delivery, runs_of, has_ended, sets_of, sets_in}
 use Rattle.received_level_laws.specs.ToldSets.{ToldCall, told_of, AreToldCalls}
 use Rattle.received_level_laws.proofs.PacketCalls.{AreSound}
@@ -72,18 +72,19 @@ sets_before coded pid pages ended packets packet rest taken faulty =
     (taken_before pid packets packet rest (sound_taken pid packets taken) faulty ∙ sym taken)
 
 -- what is told of packets with one that cannot be taken is told of those before it
-pub calls_stop : (profile : Profile) (pid : ℕ) (pages : Pages) (anchor slot : ℕ) (ended : Bool)
+pub calls_stop : (reception : Reception) (slot : ℕ) (ended : Bool)
     (packets : List (List ℕ))
     (packet : List ℕ) (rest : List (List ℕ)) (fault : PacketFault) (told : List ToldCall)
-    → packets_taken pid packets ≡ packets → packet_fault pid packet ≡ Some fault
-    → AreToldCalls profile pid pages anchor slot ended (packets ++ packet ∷ rest) told
-    → AreToldCalls profile pid pages anchor slot false packets told
-calls_stop profile pid pages anchor slot ended packets packet rest fault told taken faulty is =
-    let none = is_faulty pid packet fault faulty in
+    → packets_taken reception.pid packets ≡ packets → packet_fault reception.pid packet ≡ Some fault
+    → AreToldCalls reception slot ended (packets ++ packet ∷ rest) told
+    → AreToldCalls reception slot false packets told
+calls_stop reception slot ended packets packet rest fault told taken faulty is =
+    let none = is_faulty reception.pid packet fault faulty in
     record {
       past = is.past;
       received = subst (λ (sets : List (Delivery (List ℕ))). AreDeliveriesRead (reverse sets) is.past)
-          (sets_before profile.coded pid pages ended packets packet rest taken none) is.received;
-      are = is.are ∙ ap (λ found. told_of profile pid pages anchor slot found is.past)
-          (taken_before pid packets packet rest (sound_taken pid packets taken) none ∙ sym taken);
+          (sets_before reception.profile.coded reception.pid reception.pages ended packets packet rest taken none)
+          is.received;
+      are = is.are ∙ ap (λ found. told_of reception slot found is.past)
+          (taken_before reception.pid packets packet rest (sound_taken reception.pid packets taken) none ∙ sym taken);
     }

@@ -17,6 +17,7 @@ use Rattle.decoder_model.specs.Kept.{last_time, epoch_of}
 use Rattle.decoder_model.specs.Nodes.{region_ids, clut_ids, table_entries}
 use Rattle.decoder_model.specs.Pixels.{painted_listings}
 use Rattle.decoder_model.specs.Readings.{Content, Reading, read}
+use Rattle.decoder_model.specs.Received.{for_page}
 use Rattle.decoder_model.specs.Sets.{Delivery, whole, has_ended, sets_of}
 use Rattle.decoder_model.specs.Taken.{segments_of, taken_among}
 use Rattle.decoder_model.specs.Verdict.{sets_since}
@@ -73,7 +74,7 @@ told =
     ∷ []
 
 -- what is told of them
-told_is : told_of (profile_of Sd) 256 (only 1) 0 0 packets received ≡ told
+told_is : told_of (for_page Sd 256 1 0) 0 packets received ≡ told
 unfolding packets packet_at page_bytes received page_read told shown_load dropped_load sets_of has_ended arrivals_of
     frames_of last_counter part_after parts_of fate_of stays_in_hand hand_after event_after sets_since last_time
     epoch_of

@@ -9,16 +9,15 @@ use Rattle.sub_base.specs.declared.profile.Profile.{Profile}
 use Rattle.stream_syntax.specs.TransportPackets.{packet_fault}
 use Rattle.stream_syntax.specs.Units.{event_at}
 use Rattle.buffer_model.specs.Calls.{Call}
-use Rattle.decoder_model.specs.declared.pages.Pages.{Pages}
 use Rattle.decoder_model.specs.Arrivals.{packets_taken}
 use Rattle.decoder_model.specs.PacketArrivals.{packet_arrival}
 use Rattle.decoder_model.specs.Readings.{Reading, AreDeliveriesRead}
-use Rattle.decoder_model.specs.Received.{HasReceived}
-use Rattle.decoder_model.specs.Sets.{Delivery, lost, sets_of}
+use Rattle.decoder_model.specs.Received.{HasReceived, Reception, sets_received}
+use Rattle.decoder_model.specs.Sets.{Delivery, lost}
 use Rattle.decoder_model.proofs.Growth.{flat-append}
 use Rattle.decoder_model.proofs.Lists.{all-append}
 use Rattle.received_level_laws.specs.StreamCalls.{set_call, each_behind, itself, calls_of_packet, calls_from, AreCallsOf}
-use Rattle.received_level_laws.specs.ToldSets.{ToldSet, ToldCall, of_no_set, of_set, told_call, told_behind, told_of, AreToldCalls, calls_told, DoneSet, done_set, told_sets, told_sets_behind}
+use Rattle.received_level_laws.specs.ToldSets.{ToldSet, ToldCall, of_no_set, of_set, told_call, told_behind, told_of, AreToldCalls, calls_told, ToldDoneSet, done_set, told_sets, told_sets_behind}
 use Rattle.received_level_laws.proofs.EachBehind.{with_earlier-append, each_count, each_more, each_last}
 use Rattle.received_level_laws.proofs.PacketCalls.{AreSound, many, none_yet, calls_of_last, calls_at_end}
 use Rattle.received_level_laws.proofs.SameCalls.{same_calls}
@@ -33,12 +32,12 @@ as_many_read [] (one ∷ past) h = absurd h
 as_many_read (delivery ∷ deliveries) [] h = absurd h
 as_many_read (delivery ∷ deliveries) (one ∷ past) h = ap suc (as_many_read deliveries past h.1)
 
-pub as_many_received : (profile : Profile) (pid : ℕ) (pages : Pages) (ended : Bool) (packets : List (List ℕ))
-    (past : List (Delivery Reading)) → HasReceived profile pid pages ended packets past
-    → length past ≡ length (sets_of profile.coded pid pages ended packets)
-as_many_received profile pid pages ended packets past received =
-    as_many_read (reverse (sets_of profile.coded pid pages ended packets)) past received
-    ∙ length-reverse (sets_of profile.coded pid pages ended packets)
+pub as_many_received : (reception : Reception) (ended : Bool) (packets : List (List ℕ))
+    (past : List (Delivery Reading)) → HasReceived reception ended packets past
+    → length past ≡ length (sets_received reception ended packets)
+as_many_received reception ended packets past received =
+    as_many_read (reverse (sets_received reception ended packets)) past received
+    ∙ length-reverse (sets_received reception ended packets)
 
 told_count : (profile : Profile) (anchor : ℕ) (older received : List (Delivery Reading))
     → length (told_behind profile anchor older received) ≡ length received
@@ -48,58 +47,63 @@ told_count profile anchor older received = each_count (told_call profile anchor)
 
 -- behind packets that were all taken, one without a fault adds its calls, with those of the sets that come with it,
 -- and changes none before them
-pub packet_tells : (profile : Profile) (pid : ℕ) (pages : Pages) (anchor slot : ℕ) (packets : List (List ℕ))
+pub packet_tells : (reception : Reception) (slot : ℕ) (packets : List (List ℕ))
     (packet : List ℕ)
     (past more : List (Delivery Reading))
-    → packets_taken pid packets ≡ packets → packet_fault pid packet ≡ None
-    → HasReceived profile pid pages false packets past
-    → HasReceived profile pid pages false (packets ++ packet ∷ [])
+    → packets_taken reception.pid packets ≡ packets → packet_fault reception.pid packet ≡ None
+    → HasReceived reception false packets past
+    → HasReceived reception false (packets ++ packet ∷ [])
     (more ++ past)
-    → told_of profile pid pages anchor slot (packets ++ packet ∷ []) (more ++ past)
-    ≡ told_of profile pid pages anchor slot packets past
-    ++ calls_of_packet of_no_set (event_at pid profile.coded packets packet)
-    (packet_arrival profile.coded pid pages packets packet) (slot + length packets)
-    (all_of (told_behind profile anchor past (reverse more)))
-packet_tells profile pid pages anchor slot packets packet past more taken sound before behind =
-    let front = told_behind profile anchor [] (reverse past) in
-    let back = told_behind profile anchor past (reverse more) in
-    let all_sound : AreSound pid (packets ++ packet ∷ []) = all-append
-    (λ packet. packet_fault pid packet ≡ None) packets (packet ∷ []) (sound_taken pid packets taken) (sound, tt) in
-    let some : many profile.coded pid pages packets ≡ length front =
-    sym (as_many_received profile pid pages false packets past before)
-    ∙ sym (told_count profile anchor [] (reverse past) ∙ length-reverse past) in
-    let all : many profile.coded pid pages (packets ++ packet ∷ []) ≡ length (front ++ back) =
-    sym (as_many_received profile pid pages false (packets ++ packet ∷ []) (more ++ past) behind)
+    → told_of reception slot (packets ++ packet ∷ []) (more ++ past)
+    ≡ told_of reception slot packets past
+    ++ calls_of_packet of_no_set (event_at reception.pid reception.profile.coded packets packet)
+    (packet_arrival reception.profile.coded reception.pid reception.pages packets packet) (slot + length packets)
+    (all_of (told_behind reception.profile reception.anchor past (reverse more)))
+packet_tells reception slot packets packet past more taken sound before behind =
+    let front = told_behind reception.profile reception.anchor [] (reverse past) in
+    let back = told_behind reception.profile reception.anchor past (reverse more) in
+    let all_sound : AreSound reception.pid (packets ++ packet ∷ []) = all-append
+    (λ packet. packet_fault reception.pid packet ≡ None) packets (packet ∷ []) (sound_taken reception.pid packets taken)
+    (sound, tt) in
+    let some : many reception.profile.coded reception.pid reception.pages packets ≡ length front =
+    sym (as_many_received reception false packets past before)
+    ∙ sym (told_count reception.profile reception.anchor [] (reverse past) ∙ length-reverse past) in
+    let all : many reception.profile.coded reception.pid reception.pages (packets ++ packet ∷ [])
+    ≡ length (front ++ back) =
+    sym (as_many_received reception false (packets ++ packet ∷ []) (more ++ past) behind)
     ∙ omega (
       arith,
       length-append more past,
       length-append front back,
-      told_count profile anchor []
+      told_count reception.profile reception.anchor []
           (reverse past),
       length-reverse past,
-      told_count profile anchor past (reverse more),
+      told_count reception.profile reception.anchor past (reverse more),
       length-reverse more,
     ) in
-    ap (calls_from of_no_set profile.coded pid pages slot [] (packets ++ packet ∷ []))
-    (each_more (told_call profile anchor) past more)
-    ∙ calls_of_last of_no_set profile.coded pid pages slot packets packet front back all_sound some all
+    ap (calls_from of_no_set reception.profile.coded reception.pid reception.pages slot [] (packets ++ packet ∷ []))
+    (each_more (told_call reception.profile reception.anchor) past more)
+    ∙ calls_of_last of_no_set reception.profile.coded reception.pid reception.pages slot packets packet front back
+    all_sound some all
 
 -- ---- the end
 
 -- the end of the stream adds the calls of the sets that it alone makes ready, last
-pub end_tells : (profile : Profile) (pid : ℕ) (pages : Pages) (anchor slot : ℕ) (packets : List (List ℕ))
+pub end_tells : (reception : Reception) (slot : ℕ) (packets : List (List ℕ))
     (past more : List (Delivery Reading))
-    → packets_taken pid packets ≡ packets → HasReceived profile pid pages false packets past
-    → told_of profile pid pages anchor slot packets (more ++ past)
-    ≡ told_of profile pid pages anchor slot packets past ++ all_of (told_behind profile anchor past (reverse more))
-end_tells profile pid pages anchor slot packets past more taken before =
-    let front = told_behind profile anchor [] (reverse past) in
-    let back = told_behind profile anchor past (reverse more) in
-    let some : many profile.coded pid pages packets ≡ length front =
-    sym (as_many_received profile pid pages false packets past before)
-    ∙ sym (told_count profile anchor [] (reverse past) ∙ length-reverse past) in
-    ap (calls_from of_no_set profile.coded pid pages slot [] packets) (each_more (told_call profile anchor) past more)
-    ∙ calls_at_end of_no_set profile.coded pid pages slot packets front back (sound_taken pid packets taken) some
+    → packets_taken reception.pid packets ≡ packets → HasReceived reception false packets past
+    → told_of reception slot packets (more ++ past)
+    ≡ told_of reception slot packets past ++ all_of (told_behind reception.profile reception.anchor past (reverse more))
+end_tells reception slot packets past more taken before =
+    let front = told_behind reception.profile reception.anchor [] (reverse past) in
+    let back = told_behind reception.profile reception.anchor past (reverse more) in
+    let some : many reception.profile.coded reception.pid reception.pages packets ≡ length front =
+    sym (as_many_received reception false packets past before)
+    ∙ sym (told_count reception.profile reception.anchor [] (reverse past) ∙ length-reverse past) in
+    ap (calls_from of_no_set reception.profile.coded reception.pid reception.pages slot [] packets)
+    (each_more (told_call reception.profile reception.anchor) past more)
+    ∙ calls_at_end of_no_set reception.profile.coded reception.pid reception.pages slot packets front back
+    (sound_taken reception.pid packets taken) some
 
 -- ---- the calls themselves
 
@@ -120,19 +124,22 @@ told_are_calls profile anchor older (one ∷ received) =
     (told_are_calls profile anchor (one ∷ older) received)
 
 -- the calls of packets are those that are told of them
-pub are_calls : (profile : Profile) (pid : ℕ) (pages : Pages) (anchor slot : ℕ) (ended : Bool)
+pub are_calls : (reception : Reception) (slot : ℕ) (ended : Bool)
     (packets : List (List ℕ))
     (told : List ToldCall)
-    → AreToldCalls profile pid pages anchor slot ended packets told
-    → AreCallsOf profile pid pages anchor slot ended packets (calls_told told)
-are_calls profile pid pages anchor slot ended packets told is = record {
+    → AreToldCalls reception slot ended packets told
+    → AreCallsOf reception slot ended packets (calls_told told)
+are_calls reception slot ended packets told is = record {
   past = is.past;
   received = is.received;
   are = ap calls_told is.are
-      ∙ ap reverse (same_calls (λ (one : ToldCall). one.call) of_no_set profile.coded pid pages slot []
-      (packets_taken pid packets) (told_behind profile anchor [] (reverse is.past))
-      ∙ ap (calls_from itself profile.coded pid pages slot [] (packets_taken pid packets))
-      (told_are_calls profile anchor [] (reverse is.past)));
+      ∙ ap reverse
+      (same_calls (λ (one : ToldCall). one.call) of_no_set reception.profile.coded reception.pid reception.pages
+      slot []
+      (packets_taken reception.pid packets) (told_behind reception.profile reception.anchor [] (reverse is.past))
+      ∙ ap (calls_from itself reception.profile.coded reception.pid reception.pages slot []
+      (packets_taken reception.pid packets))
+      (told_are_calls reception.profile reception.anchor [] (reverse is.past)));
 }
 
 -- ---- sets that are told
@@ -141,7 +148,7 @@ are_calls profile pid pages anchor slot ended packets told is = record {
 pub sets_more : (pace : Pace) (told more : List ToldCall) → told_sets pace (told ++ more)
     ≡ told_sets pace told ++ told_sets_behind pace (reverse told) more
 sets_more pace told more =
-    let of_placed : ToldCall × List ToldCall → Option DoneSet = λ placed. done_set pace placed.1 placed.0 in
+    let of_placed : ToldCall × List ToldCall → Option ToldDoneSet = λ placed. done_set pace placed.1 placed.0 in
     ap (filter_map of_placed) (with_earlier-append [] told more)
     ∙ filter_map-append of_placed (with_earlier [] told) (with_earlier (reverse told ++ []) more)
     ∙ ap (λ earlier. told_sets pace told ++ told_sets_behind pace earlier more) (append-nil (reverse told))
@@ -178,11 +185,11 @@ losses_tell profile anchor past (one ∷ more) h =
 -- ---- nothing
 
 -- before the first packet nothing is told
-pub nothing_told : (profile : Profile) (pid : ℕ) (pages : Pages) (anchor slot : ℕ) (ended : Bool)
-    → AreToldCalls profile pid pages anchor slot ended [] []
-nothing_told profile pid pages anchor slot ended = record {
+pub nothing_told : (reception : Reception) (slot : ℕ) (ended : Bool)
+    → AreToldCalls reception slot ended [] []
+nothing_told reception slot ended = record {
   past = [];
   received = subst (λ (sets : List (Delivery (List ℕ))). AreDeliveriesRead (reverse sets) [])
-      (sym (none_yet profile.coded pid pages ended)) tt;
+      (sym (none_yet reception.profile.coded reception.pid reception.pages ended)) tt;
   are = refl;
 }

@@ -13,7 +13,7 @@ use Rattle.sub_base.specs.Lists.{with_earlier, all_of}
 use Rattle.decoder_model.specs.PacketArrivals.{PacketArrival, packet_arrival, is_break}
 use Rattle.decoder_model.specs.Painting.{set_load}
 use Rattle.decoder_model.specs.Readings.{Reading}
-use Rattle.decoder_model.specs.Received.{HasReceived}
+use Rattle.decoder_model.specs.Received.{HasReceived, Reception}
 use Rattle.decoder_model.specs.Sets.{Delivery, sets_of}
 
 -- ---- sets
@@ -80,11 +80,11 @@ calls_from of coded pid pages slot before (packet ∷ packets) left =
     ++ calls_from of coded pid pages (slot + 1) (before ++ packet ∷ []) packets
     (drop (count_with coded pid pages before packet) left)
 
--- these are the calls, the latest first, that packets give, the first of which stands in that slot, in a receiver of
--- a profile for a PID and these pages with that anchor; the stream ends with the packets or not
-pub record AreCallsOf (profile : Profile) (pid : ℕ) (pages : Pages) (anchor slot : ℕ) (ended : Bool)
-    (packets : List (List ℕ)) (calls : List Call) : Type 0 where
+-- these are the calls, the latest first, that packets give to a receiver, the first of which stands in that slot; the
+-- stream ends with the packets or not
+pub record AreCallsOf (reception : Reception) (slot : ℕ) (ended : Bool) (packets : List (List ℕ))
+    (calls : List Call) : Type 0 where
   pub past : List (Delivery Reading)
-  pub received : HasReceived profile pid pages ended packets past
-  pub are : calls ≡ reverse (calls_from itself profile.coded pid pages slot [] (packets_taken pid packets)
-      (set_calls profile anchor (reverse past)))
+  pub received : HasReceived reception ended packets past
+  pub are : calls ≡ reverse (calls_from itself reception.profile.coded reception.pid reception.pages slot []
+      (packets_taken reception.pid packets) (set_calls reception.profile reception.anchor (reverse past)))

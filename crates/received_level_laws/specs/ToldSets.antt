@@ -7,11 +7,10 @@ use Rattle.sub_base.specs.declared.load.SetLoad.{SetLoad}
 use Rattle.sub_base.specs.declared.pace.Pace.{Pace}
 use Rattle.sub_base.specs.declared.profile.Profile.{Profile}
 use Rattle.buffer_model.specs.Calls.{Call, Arrived, SetWhole, Dropped, last_slot, done_of}
-use Rattle.decoder_model.specs.declared.pages.Pages.{Pages}
 use Rattle.decoder_model.specs.Arrivals.{packets_taken}
 use Rattle.decoder_model.specs.Painting.{set_load}
 use Rattle.decoder_model.specs.Readings.{Reading}
-use Rattle.decoder_model.specs.Received.{HasReceived}
+use Rattle.decoder_model.specs.Received.{HasReceived, Reception}
 use Rattle.decoder_model.specs.Sets.{Delivery}
 use Rattle.decoder_model.specs.Verdict.{verdict_of}
 use Rattle.decoder_model.specs.declared.set_end.SetEnd.{SetEnd}
@@ -67,18 +66,18 @@ call_of_end (NotLater last) load = Dropped
 
 -- the told calls, the first one first, of packets that were all taken, the first of which stands in that slot, and of
 -- what was received with them, the latest first
-abbrev pub told_of : Profile → ℕ → Pages → ℕ → ℕ → List (List ℕ) → List (Delivery Reading)
-    → List ToldCall
-told_of profile pid pages anchor slot packets past =
-    calls_from of_no_set profile.coded pid pages slot [] packets (told_behind profile anchor [] (reverse past))
+abbrev pub told_of : Reception → ℕ → List (List ℕ) → List (Delivery Reading) → List ToldCall
+told_of reception slot packets past =
+    calls_from of_no_set reception.profile.coded reception.pid reception.pages slot [] packets
+    (told_behind reception.profile reception.anchor [] (reverse past))
 
--- these are the told calls, the first one first, that packets give, the first of which stands in that slot, in a
--- receiver of a profile for a PID and these pages with that anchor; the stream ends with the packets or not
-pub record AreToldCalls (profile : Profile) (pid : ℕ) (pages : Pages) (anchor slot : ℕ) (ended : Bool)
-    (packets : List (List ℕ)) (told : List ToldCall) : Type 0 where
+-- these are the told calls, the first one first, that packets give to a receiver, the first of which stands in that
+-- slot; the stream ends with the packets or not
+pub record AreToldCalls (reception : Reception) (slot : ℕ) (ended : Bool) (packets : List (List ℕ))
+    (told : List ToldCall) : Type 0 where
   pub past : List (Delivery Reading)
-  pub received : HasReceived profile pid pages ended packets past
-  pub are : told ≡ told_of profile pid pages anchor slot (packets_taken pid packets) past
+  pub received : HasReceived reception ended packets past
+  pub are : told ≡ told_of reception slot (packets_taken reception.pid packets) past
 
 -- the calls themselves, the latest first
 abbrev pub calls_told : List ToldCall → List Call
@@ -87,7 +86,7 @@ calls_told told = reverse (map (λ (one : ToldCall). one.call) told)
 -- ---- when sets are done
 
 -- a set that is told, and the tick at which it is done
-pub record DoneSet : Type 0 where
+pub record ToldDoneSet : Type 0 where
   pub set : ToldSet
   pub done : ℕ
 
@@ -103,15 +102,15 @@ abbrev pub done_behind : Pace → List ToldCall → ToldCall → ℕ
 done_behind pace earlier told = done_by pace (map (λ (one : ToldCall). one.call) earlier) told.call
 
 -- the set of a told call behind earlier ones, with the tick at which it is done; none where the call is of no set
-abbrev pub done_set : Pace → List ToldCall → ToldCall → Option DoneSet
+abbrev pub done_set : Pace → List ToldCall → ToldCall → Option ToldDoneSet
 done_set pace earlier told =
     option_map (λ (set : ToldSet). record { set = set; done = done_behind pace earlier told }) told.set
 
 -- the sets of told calls in their order, each behind those before it, which are these and then earlier ones
-abbrev pub told_sets_behind : Pace → List ToldCall → List ToldCall → List DoneSet
+abbrev pub told_sets_behind : Pace → List ToldCall → List ToldCall → List ToldDoneSet
 told_sets_behind pace earlier told =
     filter_map (λ (placed : ToldCall × List ToldCall). done_set pace placed.1 placed.0) (with_earlier earlier told)
 
 -- the sets of told calls, in their order
-abbrev pub told_sets : Pace → List ToldCall → List DoneSet
+abbrev pub told_sets : Pace → List ToldCall → List ToldDoneSet
 told_sets pace told = told_sets_behind pace [] told

@@ -9,12 +9,11 @@ ghost use Rattle.sub_base.specs.declared.profile.Profile.{Profile};
 ghost use Rattle.stream_syntax.specs.TransportPackets.{packet_fault};
 ghost use Rattle.stream_syntax.specs.Units.{event_at};
 ghost use Rattle.stream_syntax.specs.declared.transport.PacketFault.{PacketFault};
-ghost use Rattle.decoder_model.specs.declared.pages.Pages.{Pages};
 ghost use Rattle.decoder_model.specs.Arrivals.{packets_taken};
 ghost use Rattle.decoder_model.specs.PacketArrivals.{packet_arrival};
 ghost use Rattle.decoder_model.specs.Painting.{set_load};
 ghost use Rattle.decoder_model.specs.Readings.{Reading};
-ghost use Rattle.decoder_model.specs.Received.{HasReceived};
+ghost use Rattle.decoder_model.specs.Received.{HasReceived, Reception};
 ghost use Rattle.decoder_model.specs.Sets.{Delivery, lost};
 ghost use Rattle.decoder_model.specs.Verdict.{verdict_of};
 ghost use Rattle.decoder_model.specs.declared.set_end.SetEnd.{SetEnd};
@@ -27,61 +26,63 @@ ghost use Rattle.sub_base.specs.Lists.{all_of};
 
 /// Before the first packet nothing is told.
 pub fn nothing_is_told()
-    ensures { (profile : Profile) (pid : ℕ) (pages : Pages) (anchor slot : ℕ) (ended : Bool)
-        → AreToldCalls profile pid pages anchor slot ended [] [] }
+    ensures { (reception : Reception) (slot : ℕ) (ended : Bool)
+        → AreToldCalls reception slot ended [] [] }
 {}
 
 /// Behind packets that were all taken, a packet without a fault brings its own calls, with those of
 /// the sets that come with it, and changes none before them.
 pub fn packet_brings_calls()
-    ensures { (profile : Profile) (pid : ℕ) (pages : Pages) (anchor slot : ℕ)
+    ensures { (reception : Reception) (slot : ℕ)
         (packets : List (List ℕ)) (packet : List ℕ) (past more : List (Delivery Reading))
-        → packets_taken pid packets ≡ packets → packet_fault pid packet ≡ None
-        → HasReceived profile pid pages false packets past
-        → HasReceived profile pid pages false (packets ++ packet ∷ []) (more ++ past)
-        → told_of profile pid pages anchor slot (packets ++ packet ∷ []) (more ++ past)
-        ≡ told_of profile pid pages anchor slot packets past
-        ++ calls_of_packet of_no_set (event_at pid profile.coded packets packet)
-        (packet_arrival profile.coded pid pages packets packet) (slot + length packets)
-        (all_of (told_behind profile anchor past (reverse more))) }
+        → packets_taken reception.pid packets ≡ packets → packet_fault reception.pid packet ≡ None
+        → HasReceived reception false packets past
+        → HasReceived reception false (packets ++ packet ∷ []) (more ++ past)
+        → told_of reception slot (packets ++ packet ∷ []) (more ++ past)
+        ≡ told_of reception slot packets past
+        ++ calls_of_packet of_no_set (event_at reception.pid reception.profile.coded packets packet)
+        (packet_arrival reception.profile.coded reception.pid reception.pages packets packet)
+        (slot + length packets)
+        (all_of (told_behind reception.profile reception.anchor past (reverse more))) }
 {}
 
 /// The end of a stream brings the calls of the sets that it alone makes ready, last.
 pub fn end_brings_calls()
-    ensures { (profile : Profile) (pid : ℕ) (pages : Pages) (anchor slot : ℕ)
+    ensures { (reception : Reception) (slot : ℕ)
         (packets : List (List ℕ)) (past more : List (Delivery Reading))
-        → packets_taken pid packets ≡ packets
-        → HasReceived profile pid pages false packets past
-        → told_of profile pid pages anchor slot packets (more ++ past)
-        ≡ told_of profile pid pages anchor slot packets past
-        ++ all_of (told_behind profile anchor past (reverse more)) }
+        → packets_taken reception.pid packets ≡ packets
+        → HasReceived reception false packets past
+        → told_of reception slot packets (more ++ past)
+        ≡ told_of reception slot packets past
+        ++ all_of (told_behind reception.profile reception.anchor past (reverse more)) }
 {}
 
 /// What is received of packets and one more is what was received before it, and more.
 pub fn packet_brings_more()
-    ensures { (profile : Profile) (pid : ℕ) (pages : Pages) (packets : List (List ℕ))
+    ensures { (reception : Reception) (packets : List (List ℕ))
         (packet : List ℕ) (all : List (Delivery Reading))
-        → packets_taken pid packets ≡ packets → packet_fault pid packet ≡ None
-        → HasReceived profile pid pages false (packets ++ packet ∷ []) all
-        → IsMoreThan profile pid pages packets all }
+        → packets_taken reception.pid packets ≡ packets → packet_fault reception.pid packet ≡ None
+        → HasReceived reception false (packets ++ packet ∷ []) all
+        → IsMoreThan reception packets all }
 {}
 
 /// What is received in the end of a stream is what was received before it, and more.
 pub fn end_brings_more()
-    ensures { (profile : Profile) (pid : ℕ) (pages : Pages) (packets : List (List ℕ))
+    ensures { (reception : Reception) (packets : List (List ℕ))
         (all : List (Delivery Reading))
-        → HasReceived profile pid pages true packets all
-        → IsMoreThan profile pid pages packets all }
+        → HasReceived reception true packets all
+        → IsMoreThan reception packets all }
 {}
 
 /// What is told of packets ends at the first that cannot be taken.
 pub fn calls_stop_at_a_fault()
-    ensures { (profile : Profile) (pid : ℕ) (pages : Pages) (anchor slot : ℕ) (ended : Bool)
+    ensures { (reception : Reception) (slot : ℕ) (ended : Bool)
         (packets : List (List ℕ)) (packet : List ℕ) (rest : List (List ℕ))
         (fault : PacketFault) (told : List ToldCall)
-        → packets_taken pid packets ≡ packets → packet_fault pid packet ≡ Some fault
-        → AreToldCalls profile pid pages anchor slot ended (packets ++ packet ∷ rest) told
-        → AreToldCalls profile pid pages anchor slot false packets told }
+        → packets_taken reception.pid packets ≡ packets
+        → packet_fault reception.pid packet ≡ Some fault
+        → AreToldCalls reception slot ended (packets ++ packet ∷ rest) told
+        → AreToldCalls reception slot false packets told }
 {}
 
 /// One more set or loss that comes is told behind those that came before it.
@@ -131,8 +132,8 @@ pub fn more_sets_are_told()
 
 /// The calls that are told of packets are those of the packets.
 pub fn told_calls_are_calls()
-    ensures { (profile : Profile) (pid : ℕ) (pages : Pages) (anchor slot : ℕ) (ended : Bool)
+    ensures { (reception : Reception) (slot : ℕ) (ended : Bool)
         (packets : List (List ℕ)) (told : List ToldCall)
-        → AreToldCalls profile pid pages anchor slot ended packets told
-        → AreCallsOf profile pid pages anchor slot ended packets (calls_told told) }
+        → AreToldCalls reception slot ended packets told
+        → AreCallsOf reception slot ended packets (calls_told told) }
 {}

@@ -15,11 +15,12 @@ use Rattle.decoder_model.specs.declared.set_end.SetEnd.TheVariants.{Shown, Waiti
 use Rattle.decoder_model.specs.declared.set_fault.SetFault.{SetFault}
 use Rattle.decoder_model.proofs.Later.{lift_above}
 use Rattle.decoder_model.proofs.Views.{view_without, view_before, view_with}
+use Rattle.decoder_model.specs.Received.{Reception}
 use Rattle.page_core.specs.Memory as cores
 use Rattle.page_core.specs.Memory.{Memory}
-use Rattle.page_core.specs.Scenes.{Shows, until_in}
+use Rattle.page_core.specs.Scenes.{ShowsStanding, until_in}
 use Rattle.page_core.proofs.Handed.Standings.{WaitsOrShows, waits_or_shows}
-use Rattle.set_receiver.specs.Receiving.{Holds, IsSame, Receiving, Reception}
+use Rattle.set_receiver.specs.Receiving.{HoldsReceived, IsSameReception, SetReceiving}
 use Rattle.set_receiver.proofs.TakenSets.{one_more, read_more}
 use Rattle.receiver.specs.Showing.{ArePictures, Slot, plane_in, time_before_last, view_in, view_until}
 
@@ -182,7 +183,7 @@ shows_nothing slot profile anchor past none stands tick =
 -- and the picture of a page memory is what its page shows
 pub shows_page : (slot : Slot) (memory : Memory) (past : List (Delivery Reading)) (standing : Standing)
     → slot.until ≡ until_in memory → slot.plane ≡ Some (plane_in memory)
-    → standing_after memory.profile memory.anchor past ≡ Some standing → Shows standing memory → (tick : ℕ)
+    → standing_after memory.profile memory.anchor past ≡ Some standing → ShowsStanding standing memory → (tick : ℕ)
     → view_in slot tick ≡ view_of tick (standing_after memory.profile memory.anchor past)
 shows_page slot memory past standing until is stands shows tick =
     ap (λ found. view_until found tick slot.plane) (until ∙ shows.until)
@@ -198,17 +199,17 @@ shows_page slot memory past standing until is stands shows tick =
 -- with a set that a page memory has taken, which has that lifted time and end, these two pictures become those
 abbrev pub TurnsTo : Option ℕ → SetEnd → Slot → Slot → Slot → Slot → Memory → Type 0
 TurnsTo lifted end before after pending current core = (past : List (Delivery Reading)) (one : Delivery Reading)
-    → cores.Stands (one ∷ past) core → lifted ≡ lifted_time core.anchor past one
+    → cores.IsMemoryAfter (one ∷ past) core → lifted ≡ lifted_time core.anchor past one
     → Some end ≡ verdict_of core.profile core.anchor past one
     → ArePictures core.profile core.anchor past before after
     → ArePictures core.profile core.anchor (one ∷ past) pending current
 
 -- so they are those after it
-pub taken_shows : (old new : Receiving) (given : List (Delivery (List ℕ))) (delivery : Delivery (List ℕ))
-    (lifted : Option ℕ) (end : SetEnd) (before after pending current : Slot) → IsSame old new
+pub taken_shows : (old new : SetReceiving) (given : List (Delivery (List ℕ))) (delivery : Delivery (List ℕ))
+    (lifted : Option ℕ) (end : SetEnd) (before after pending current : Slot) → IsSameReception old new
     → ((past : List (Delivery Reading)) → AreDeliveriesRead (reverse given) past
     → ArePictures old.core.profile old.core.anchor past before after)
-    → Holds (given ++ delivery ∷ []) new.core
+    → HoldsReceived (given ++ delivery ∷ []) new.core
     → ((past : List (Delivery Reading)) (one : Delivery Reading) → AreDeliveriesRead (reverse given) past
     → IsDeliveryRead delivery one → lifted ≡ lifted_time old.core.anchor past one)
     → ((past : List (Delivery Reading)) (one : Delivery Reading) → AreDeliveriesRead (reverse given) past

@@ -4,12 +4,11 @@ use Rattle.sub_base.specs.declared.load.SetLoad.{SetLoad}
 use Rattle.ts_packets.specs.Demuxing.{Demuxing}
 use Rattle.decoder_model.specs.PacketArrivals.{PacketArrival}
 use Rattle.decoder_model.specs.Readings.{Reading, AreDeliveriesRead}
+use Rattle.decoder_model.specs.Received.{Reception, sets_received}
 use Rattle.decoder_model.specs.Sets.{Delivery}
-use Rattle.decoder_model.specs.Shown.{IsShown, View}
 use Rattle.display_sets.specs.Gathered.{Gathered}
 use Rattle.receiver.specs.Showing.{ArePictures, Showing, Slot}
 use Rattle.set_receiver.specs.Receiving as held
-use Rattle.set_receiver.specs.Receiving.{Reception, sets_received}
 
 -- ---- what is kept
 
@@ -23,7 +22,7 @@ pub record Receiving : Type 0 where
   pub load : SetLoad
 
 -- all of it but the pictures
-abbrev pub without_pictures : Receiving → held.Receiving
+abbrev pub without_pictures : Receiving → held.SetReceiving
 without_pictures receiving = record {
   collecting = record { demux = receiving.demux; sets = receiving.sets; arrival = receiving.arrival };
   core = receiving.showing.core;
@@ -31,7 +30,7 @@ without_pictures receiving = record {
 }
 
 -- with these pictures
-abbrev pub with_pictures : held.Receiving → Slot → Slot → Receiving
+abbrev pub with_pictures : held.SetReceiving → Slot → Slot → Receiving
 with_pictures receiving pending current = record {
   demux = receiving.collecting.demux;
   sets = receiving.collecting.sets;
@@ -47,8 +46,8 @@ reception receiving = held.reception (without_pictures receiving)
 -- ---- what it has to do with all that came
 
 -- the pictures are those after these sets and losses, however they are read
-abbrev pub Shows : List (Delivery (List ℕ)) → Receiving → Type 0
-Shows given receiving = (past : List (Delivery Reading)) → AreDeliveriesRead (reverse given) past
+abbrev pub ShowsAfter : List (Delivery (List ℕ)) → Receiving → Type 0
+ShowsAfter given receiving = (past : List (Delivery Reading)) → AreDeliveriesRead (reverse given) past
     → ArePictures (reception receiving).profile (reception receiving).anchor past receiving.showing.pending
     receiving.showing.current
 
@@ -56,13 +55,8 @@ Shows given receiving = (past : List (Delivery Reading)) → AreDeliveriesRead (
 -- losses were taken from it
 pub record Stands (ended : Bool) (fed : List (List ℕ)) (given : List (Delivery (List ℕ)))
     (receiving : Receiving) : Type 0 where
-  pub sets : held.Stands ended fed given (without_pictures receiving)
-  pub shows : Shows given receiving
-
--- this is shown of packets at a tick
-abbrev pub IsShownIn : Reception → Bool → List (List ℕ) → ℕ → View → Type 0
-IsShownIn reception ended fed tick shown =
-    IsShown reception.profile reception.pid reception.pages reception.anchor ended fed tick shown
+  pub sets : held.HasBeenFed ended fed given (without_pictures receiving)
+  pub shows : ShowsAfter given receiving
 
 -- it is for the same
 abbrev pub IsSame : Receiving → Receiving → Type 0

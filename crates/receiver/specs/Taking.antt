@@ -1,8 +1,8 @@
 -- Sets that are taken from a receiver, whatever it was fed.
 use Rattle.std.specs.Prelude.{◌≡◌, ℕ, Bool, List}
+use Rattle.decoder_model.specs.Received.{sets_received}
 use Rattle.decoder_model.specs.Sets.{Delivery}
 use Rattle.receiver.specs.Receiving.{IsNext, Receiving, Stands, reception}
-use Rattle.set_receiver.specs.Receiving.{sets_received}
 
 -- a set or loss comes next, where anything was fed
 abbrev pub HasNext : Receiving → Type 0

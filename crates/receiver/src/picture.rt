@@ -5,9 +5,9 @@ ghost use Rattle.std.specs.Prelude.{◌≡◌, ◌*◌, ◌≤◌, IfOk, List, N
 ghost use Rattle.decoder_model.specs.Readings.{Reading};
 ghost use Rattle.decoder_model.specs.Sets.{Delivery};
 ghost use Rattle.decoder_model.specs.Shown.{Standing, is_over_at, standing_after};
-ghost use Rattle.page_core.specs.Memory.{Stands};
+ghost use Rattle.page_core.specs.Memory.{IsMemoryAfter};
 ghost use Rattle.page_core.specs.Rows.{picture_in};
-ghost use Rattle.page_core.specs.Scenes.{Shows, until_in};
+ghost use Rattle.page_core.specs.Scenes.{ShowsStanding, until_in};
 ghost use Rattle.receiver.specs.Lent.{IsWholeView, view_lent};
 ghost use Rattle.receiver.specs.Showing.{places_of, plane_in, view_in};
 ghost use Rattle.receiver.specs.Slots.{HasPlaces, IsInPlane, slot_of};
@@ -55,7 +55,7 @@ impl Picture {
         })
     }
 
-    /// Shows the page of a core, from the time that it has.
+    /// ShowsStanding the page of a core, from the time that it has.
     pub(crate) fn show<R: Threads + Sync, G: BandGate + Sync>(
         &mut self,
         rt: &R,
@@ -74,10 +74,10 @@ impl Picture {
               plane = Some
                   (plane_in core.now);
             } }
-        ensures shown { (past : List (Delivery Reading)) → Stands past core.now
+        ensures shown { (past : List (Delivery Reading)) → IsMemoryAfter past core.now
             → (standing : Standing)
             × (standing_after core.now.profile core.now.anchor past ≡ Some standing)
-            × Shows standing core.now }
+            × ShowsStanding standing core.now }
         ensures places { HasPlaces core.now.profile self.new }
         ensures inside { IsInPlane self.new }
     {

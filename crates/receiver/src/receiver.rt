@@ -49,15 +49,17 @@ impl Receiver {
     ghost use Rattle.decoder_model.specs.Verdict.{verdict_of};
     ghost use Rattle.decoder_model.specs.PacketArrivals.{packet_arrival};
     ghost use Rattle.decoder_model.specs.Readings.{AreDeliveriesRead, IsDeliveryRead, Reading};
+    ghost use Rattle.decoder_model.specs.Received.{sets_received};
     ghost use Rattle.decoder_model.specs.Sets.{Delivery};
     ghost use Rattle.decoder_model.specs.Shown.{view_at};
     ghost use Rattle.decoder_model.specs.Shown.{View as Shows};
     ghost use Rattle.decoder_model.specs.declared.set_end.SetEnd.TheVariants.{Shown};
     ghost use Rattle.display_sets.specs.Gathered.{first_ready, ready_sets, sets_behind};
     ghost use Rattle.set_reader.specs.Arrived.{arrival_value};
+    ghost use Rattle.decoder_model.specs.Shown.{IsShown};
     ghost use Rattle.receiver.specs.Lent.{IsWholeView, view_lent};
-    ghost use Rattle.receiver.specs.Receiving.{IsNext, IsSame, IsShownIn, Stands, reception};
-    ghost use Rattle.set_receiver.specs.Receiving.{AreLosses, sets_received, set_time};
+    ghost use Rattle.receiver.specs.Receiving.{IsNext, IsSame, Stands, reception};
+    ghost use Rattle.set_receiver.specs.Receiving.{AreLosses, set_time};
     ghost use Rattle.sub_base.specs.declared.profile.TheConstants.{LARGEST_BUFFER};
     ghost use Rattle.receiver.specs.Showing.{time_before_last};
 
@@ -269,7 +271,7 @@ impl Receiver {
         ensures shown { (fed : List (List ℕ)) (ended : Bool) (given : List (Delivery (List ℕ)))
             (shown : Shows)
             → Stands ended fed given self.now → ready_sets self.now.sets ≡ []
-            → IsShownIn (reception self.now) ended fed tick shown
+            → IsShown (reception self.now) ended fed tick shown
             → view_lent result ≡ shown }
         ensures ahead { (fed : List (List ℕ)) (ended : Bool)
             (given rest : List (Delivery (List ℕ)))
@@ -279,7 +281,7 @@ impl Receiver {
             → AreDeliveriesRead (reverse given) past → IsDeliveryRead next one
             → lifted_time (reception self.now).anchor past one ≡ Some lifted)
             → tick < lifted
-            → IsShownIn (reception self.now) ended fed tick shown
+            → IsShown (reception self.now) ended fed tick shown
             → view_lent result ≡ shown }
         ensures whole { IsWholeView result }
     {

@@ -36,7 +36,7 @@ impl Screen {
     ghost use Rattle.decoder_model.specs.Shown.{view_at};
     ghost use Rattle.decoder_model.specs.Verdict.{verdict_of};
     ghost use Rattle.decoder_model.specs.declared.set_end.SetEnd.TheVariants.{Shown};
-    ghost use Rattle.page_core.specs.Memory.{Stands};
+    ghost use Rattle.page_core.specs.Memory.{IsMemoryAfter};
     ghost use Rattle.receiver.specs.Lent.{IsWholeView, view_lent};
     ghost use Rattle.receiver.specs.Showing.{ArePictures, places_of, shown_at};
 
@@ -69,7 +69,7 @@ impl Screen {
         requires some { 1 ≤ bands }
         requires few { bands ≤ 64 }
         ensures pictures { (past : List (Delivery Reading)) (one : Delivery Reading)
-            → Stands (one ∷ past) core.now
+            → IsMemoryAfter (one ∷ past) core.now
             → lifted ≡ lifted_time core.now.anchor past one
             → Some end ≡ verdict_of core.now.profile core.now.anchor past one
             → ArePictures core.now.profile core.now.anchor past self.old.pending self.old.current

@@ -10,7 +10,7 @@ use Rattle.schedule.specs.declared.fault.ScheduleFault.{ScheduleFault}
 use Rattle.schedule.specs.declared.fault.ScheduleFault.TheVariants.{Memory, CodedFull, Late, SegmentFull}
 use Rattle.schedule.specs.Arrivals.{IsArrival, IsEarliest, IsHopeless}
 use Rattle.schedule.specs.Packets.{size_of, longest_of, load_of, first_packet, packets_of}
-use Rattle.schedule.specs.Refusals.{IsCause, IsRefusal}
+use Rattle.schedule.specs.Refusals.{IsScheduleCause, AnswersScheduleFault}
 use Rattle.schedule.specs.Slots.{Timetable, IsSchedule, IsOnTime, IsLoad}
 use Rattle.schedule.proofs.SumLaws.{sum_below-more, sum_below-zero}
 use Rattle.schedule.proofs.EarliestLaws.{arrival, earlier-done, earliest, hopeless}
@@ -74,7 +74,7 @@ set_of (Late set done shown) = set
 set_of (SegmentFull set longest) = set
 
 reached : (loads : List WriteLoad) (pace : Pace) (fault : ScheduleFault) → fault ≢ Memory
-    → IsCause loads pace fault → IsReached loads pace (set_of fault)
+    → IsScheduleCause loads pace fault → IsReached loads pace (set_of fault)
 reached loads pace Memory other cause = absurd (other refl)
 reached loads pace (CodedFull set size) other cause =
     record {
@@ -107,7 +107,7 @@ reached loads pace (SegmentFull set longest) other cause =
 
 -- no set behind that of a fault is reached
 not_behind : (loads : List WriteLoad) (pace : Pace) (fault : ScheduleFault) (set : ℕ) → All IsLoad loads
-    → fault ≢ Memory → IsCause loads pace fault →
+    → fault ≢ Memory → IsScheduleCause loads pace fault →
     IsReached loads pace set → set_of fault < set → ⊥
 not_behind loads pace Memory set each other cause at behind = other refl
 not_behind loads pace (CodedFull first size) set each other cause at behind =
@@ -125,7 +125,7 @@ not_behind loads pace (SegmentFull first longest) set each other cause at behind
 pub schedule_or_fault : (loads : List WriteLoad) (pace : Pace) (table : Timetable) (fault : ScheduleFault)
     → All IsLoad loads →
     IsSchedule loads (length loads) pace table → IsOnTime loads (length loads) pace table → fault ≢ Memory
-    → IsCause loads pace fault → ⊥
+    → IsScheduleCause loads pace fault → ⊥
 schedule_or_fault loads pace table Memory each at on_time other cause = other refl
 schedule_or_fault loads pace table (CodedFull set size) each at on_time other cause =
     not_behind loads pace (CodedFull set size) (length loads) each other cause
@@ -208,7 +208,8 @@ one_schedule loads n pace one other each few at again =
 
 late_once : (loads : List WriteLoad) (pace : Pace) (set other done again shown time : ℕ) → All IsLoad loads
     → set ≡ other →
-    IsCause loads pace (Late set done shown) → IsCause loads pace (Late other again time) → (done ≡ again)
+    IsScheduleCause loads pace (Late set done shown) → IsScheduleCause loads pace (Late other again time)
+    → (done ≡ again)
     × (shown ≡ time)
 late_once loads pace set other done again shown time each same first second =
     let Schedules : ℕ → Type 0 = λ n. IsSchedule loads (n + 1) pace second.table in
@@ -222,7 +223,7 @@ late_once loads pace set other done again shown time each same first second =
 -- of one set there is one fault
 of_one_set : (loads : List WriteLoad) (pace : Pace) (told fault : ScheduleFault) → All IsLoad loads
     → told ≢ Memory → fault ≢ Memory →
-    IsCause loads pace told → IsCause loads pace fault → set_of told ≡ set_of fault → told ≡ fault
+    IsScheduleCause loads pace told → IsScheduleCause loads pace fault → set_of told ≡ set_of fault → told ≡ fault
 of_one_set loads pace Memory fault each this that first second same = absurd (this refl)
 of_one_set loads pace told Memory each this that first second same = absurd (that refl)
 of_one_set loads pace (CodedFull a x) (CodedFull b y) each this that first second same =
@@ -251,7 +252,7 @@ apart_or_same a b = grind arith
 -- of all sets there is one fault
 pub one_fault : (loads : List WriteLoad) (pace : Pace) (told fault : ScheduleFault) → All IsLoad loads
     → told ≢ Memory → fault ≢ Memory →
-    IsCause loads pace told → IsCause loads pace fault → told ≡ fault
+    IsScheduleCause loads pace told → IsScheduleCause loads pace fault → told ≡ fault
 one_fault loads pace told fault each this that first second =
     elim (apart_or_same (set_of told) (set_of fault)) [
       | inl less ↦ absurd
@@ -276,14 +277,14 @@ made_earliest loads pace (Ok table) each at = earliest loads (length loads) pace
 made_earliest loads pace (Err fault) each at = tt
 
 pub no_hope : {T : Type 0} (loads : List WriteLoad) (pace : Pace) (result : Result T ScheduleFault)
-    → All IsLoad loads → IfErr result (IsCause loads pace) →
+    → All IsLoad loads → IfErr result (IsScheduleCause loads pace) →
     IfErr result (IsHopeless loads pace)
 no_hope loads pace (Ok made) each cause = tt
 no_hope loads pace (Err fault) each cause = hopeless loads pace fault each cause
 
 pub every_schedule : (loads : List WriteLoad) (pace : Pace) (result : Result Timetable ScheduleFault)
     → All IsLoad loads → IfOk result (IsSchedule loads (length loads) pace) →
-    IfErr result (IsCause loads pace) → (table : Timetable) → IsSchedule loads (length loads) pace table
+    IfErr result (IsScheduleCause loads pace) → (table : Timetable) → IsSchedule loads (length loads) pace table
     → IsOnTime loads (length loads) pace table →
     MatchResult result (λ made. made ≡ table) (λ fault. fault ≡ Memory)
 every_schedule loads pace (Ok made) each found cause table at on_time =
@@ -302,8 +303,8 @@ every_schedule loads pace (Err (SegmentFull set longest)) each found cause table
 pub every_fault : (loads : List WriteLoad) (pace : Pace) (result : Result Timetable ScheduleFault)
     → All IsLoad loads →
     IfOk result (IsSchedule loads (length loads) pace) → IfOk result (IsOnTime loads (length loads) pace)
-    → IfErr result (IsCause loads pace) →
-    (fault : ScheduleFault) → IsCause loads pace fault → fault ≢ Memory → IsRefusal fault result
+    → IfErr result (IsScheduleCause loads pace) →
+    (fault : ScheduleFault) → IsScheduleCause loads pace fault → fault ≢ Memory → AnswersScheduleFault fault result
 every_fault loads pace (Ok table) each at on_time cause fault is other =
     schedule_or_fault loads pace table fault each at on_time other is
 every_fault loads pace (Err Memory) each at on_time cause fault is other = inl refl

@@ -10,9 +10,9 @@ use Rattle.schedule.specs.declared.fault.ScheduleFault.{ScheduleFault}
 use Rattle.schedule.specs.declared.fault.ScheduleFault.TheVariants.{Memory, CodedFull, Late, SegmentFull}
 use Rattle.schedule.specs.Arrivals.{payload_by, arrived_of, IsArrival, IsEarliest, IsHopeless}
 use Rattle.schedule.specs.Packets.{sum_below, size_of, first_packet, packets_of, payload_of, bytes_with}
-use Rattle.schedule.specs.Refusals.{IsCause}
+use Rattle.schedule.specs.Refusals.{IsScheduleCause}
 use Rattle.sub_base.specs.Pace.{tick_of}
-use Rattle.schedule.specs.Slots.{slot_of, left_of, done_of, Timetable, IsSchedule, IsLoad}
+use Rattle.schedule.specs.Slots.{slot_of, left_of, set_done_at, Timetable, IsSchedule, IsLoad}
 use Rattle.schedule.proofs.SumLaws.{sum_below-more, sum_below-zero, sum_below-rises, sum_below-same, sum_below-le, sum_below-ends}
 use Rattle.schedule.proofs.BufferLaws.{tick_of-rises, left_of-no, left_of-most}
 use Rattle.schedule.proofs.PacketLaws.{load_at, payloads, some_bytes, some_packets}
@@ -150,7 +150,7 @@ arrival-room loads n pace slots dones i k each all at before within =
 -- earlier slots make an earlier done tick
 pub done_of-le : (loads : List WriteLoad) (pace : Pace) (slots others : List ℕ) (i : ℕ) →
     slot_of loads slots i (packets_of loads i - 1) ≤ slot_of loads others i (packets_of loads i - 1)
-    → done_of loads pace slots i ≤ done_of loads pace others i
+    → set_done_at loads pace slots i ≤ set_done_at loads pace others i
 done_of-le loads pace slots others i h =
     omega (
       arith,
@@ -281,7 +281,7 @@ arrival loads n pace table rise at =
 
 -- a refusal holds for every arrival
 pub hopeless : (loads : List WriteLoad) (pace : Pace) (fault : ScheduleFault) → All IsLoad loads
-    → IsCause loads pace fault → IsHopeless loads pace fault
+    → IsScheduleCause loads pace fault → IsHopeless loads pace fault
 hopeless loads pace Memory each cause = tt
 hopeless loads pace (CodedFull set size) each cause = λ m slots dones among all other.
     let some = some_packets loads set (some_bytes loads set each cause.among) in

@@ -8,7 +8,7 @@ use Rattle.sub_base.specs.Pace.{tick_of, left_by, done_tick}
 use Rattle.schedule.specs.declared.limits.TheConstants.{SEND_WINDOW}
 use Rattle.schedule.specs.Fronts.{front_of}
 use Rattle.schedule.specs.Packets.{sum_below, no_load, load_of, size_of, payloads_of, payload_of, packets_of, first_packet, bytes_with}
-use Rattle.schedule.specs.Slots.{Timetable, CanStand, IsSchedule, IsLoad, slot_of, left_of, done_of, shown_before}
+use Rattle.schedule.specs.Slots.{Timetable, CanStand, IsSchedule, IsLoad, slot_of, left_of, set_done_at, shown_before}
 use Rattle.schedule.proofs.AnswerLaws.{one_schedule}
 use Rattle.schedule.proofs.PacketLaws.{some_bytes, some_packets}
 use Rattle.schedule.proofs.SlotLaws.{CanStand-along}
@@ -85,7 +85,7 @@ same_last loads others slots n i same below =
     ∙ ap (λ count. slot_of loads slots i (count - 1)) (same_count loads others n i same below)
 
 same_done_of : (loads others : List WriteLoad) (n : ℕ) (pace : Pace) (slots : List ℕ) (i : ℕ)
-    → AreSame loads others n → i < n → done_of others pace slots i ≡ done_of loads pace slots i
+    → AreSame loads others n → i < n → set_done_at others pace slots i ≡ set_done_at loads pace slots i
 same_done_of loads others n pace slots i same below =
     let last = same_last loads others slots n i same below in
     let shown = same_shown loads others n i same below in
@@ -165,7 +165,7 @@ abbrev HaveSome : List WriteLoad → ℕ → Type 0
 HaveSome loads n = (i : ℕ) → i < n → 1 ≤ packets_of loads i
 
 cut_done : (loads : List WriteLoad) (pace : Pace) (slots : List ℕ) (n i : ℕ) → i < n → 1 ≤ packets_of loads i
-    → done_of loads pace (take (first_packet loads n) slots) i ≡ done_of loads pace slots i
+    → set_done_at loads pace (take (first_packet loads n) slots) i ≡ set_done_at loads pace slots i
 cut_done loads pace slots n i below some =
     let last : slot_of loads (take (first_packet loads n) slots) i (packets_of loads i - 1)
     ≡ slot_of loads slots i (packets_of loads i - 1) =

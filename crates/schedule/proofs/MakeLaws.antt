@@ -13,7 +13,7 @@ use Rattle.schedule.specs.declared.place.Search.{Search}
 use Rattle.sub_base.specs.declared.load.TheConstants.{UNIT_ROOM}
 use Rattle.schedule.specs.Packets.{sum_below, size_of, load_of, longest_of, first_packet, packets_of}
 use Rattle.sub_base.specs.Pace.{tick_of, done_tick, IsSound}
-use Rattle.schedule.specs.Slots.{CanStand, slot_of, done_of, shown_before, Timetable, IsSchedule, IsOnTime, IsLoad, IsTable}
+use Rattle.schedule.specs.Slots.{CanStand, slot_of, set_done_at, shown_before, Timetable, IsSchedule, IsOnTime, IsLoad, IsTable}
 use Rattle.schedule.specs.Refusals.{IsFirstFull, IsFirstLate, IsFirstLong}
 use Rattle.schedule.specs.Private.Safe.{AreOrdered}
 use Rattle.schedule.specs.Private.Search.{HaveStood, Follows, IsBetween}
@@ -63,7 +63,7 @@ pub IsSchedule-more : (loads : List WriteLoad) (pace : Pace) (n : ℕ) (slots en
     ((i : ℕ) → i < n → 1 ≤ size_of loads i) → IsSchedule loads n pace (table_of slots ends dones) →
     ((m : ℕ) → m < length slots → slice_index slots' m ≡ slice_index slots m)
     → length slots' ≡ first_packet loads (n + 1) →
-    HaveStood loads pace slots' dones n (packets_of loads n) → done ≡ done_of loads pace slots' n →
+    HaveStood loads pace slots' dones n (packets_of loads n) → done ≡ set_done_at loads pace slots' n →
     IsSchedule loads (n + 1) pace (table_of slots' (ends ++ length slots' ∷ []) (dones ++ done ∷ []))
 IsSchedule-more loads pace n slots ends dones slots' done sizes before kept count stood is =
     record {
@@ -78,7 +78,7 @@ IsSchedule-more loads pace n slots ends dones slots' done sizes before kept coun
           ∙ before.ends i less)
           (ap (λ (m : ℕ). slice_index ends' m) (sym before.sets.0) ∙ get_or-append_seam ends (length slots') [] 0
           ∙ count);
-      dones = below_more (λ i. slice_index dones' i ≡ done_of loads pace slots' i) n
+      dones = below_more (λ i. slice_index dones' i ≡ set_done_at loads pace slots' i) n
           (λ i less. same_done i (omega (arith, before.sets.1)) ∙ before.dones i less ∙ same_done_of i less)
           (ap (λ (m : ℕ). slice_index dones' m) (sym before.sets.1) ∙ get_or-append_seam dones done [] 0 ∙ is);
       stands = λ i k within among. elim (cases_lt i n) [
@@ -117,7 +117,7 @@ IsSchedule-more loads pace n slots ends dones slots' done sizes before kept coun
     same_slot i k less among =
         kept (first_packet loads i + k) (omega (arith, before.packets, within_packets loads i k n less among))
 
-    same_done_of : (i : ℕ) → i < n → done_of loads pace slots i ≡ done_of loads pace slots' i
+    same_done_of : (i : ℕ) → i < n → set_done_at loads pace slots i ≡ set_done_at loads pace slots' i
     same_done_of i less =
         ap (λ (slot : ℕ). done_tick (tick_of pace slot) (shown_before loads i) (load_of loads i))
         (sym (same_slot i (packets_of loads i - 1) less (omega (arith, some_packets loads i (sizes i less)))))

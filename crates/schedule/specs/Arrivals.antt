@@ -9,7 +9,7 @@ use Rattle.sub_base.specs.declared.load.TheConstants.{UNIT_ROOM}
 use Rattle.schedule.specs.declared.limits.TheConstants.{SEND_WINDOW}
 use Rattle.schedule.specs.Packets.{sum_below, load_of, longest_of, packets_of, first_packet, payload_of}
 use Rattle.sub_base.specs.Pace.{tick_of}
-use Rattle.schedule.specs.Slots.{Timetable, IsSchedule, slot_of, left_of, done_of}
+use Rattle.schedule.specs.Slots.{Timetable, IsSchedule, slot_of, left_of, set_done_at}
 
 -- the payload of packet k of set i where its slot is at most this one, and else 0
 abbrev pub payload_by : List WriteLoad → List ℕ → ℕ → ℕ → ℕ → ℕ
@@ -21,8 +21,8 @@ arrived_of loads slots slot i = sum_below (payload_by loads slots slot i) (packe
 
 -- the coded level at a slot: the payload of all packets of the first n sets with a slot at most this one, less the
 -- bytes of the sets that are done by its tick
-abbrev pub level_at : List WriteLoad → ℕ → Pace → List ℕ → List ℕ → ℕ → ℕ
-level_at loads n pace slots dones slot =
+abbrev pub coded_level_at : List WriteLoad → ℕ → Pace → List ℕ → List ℕ → ℕ → ℕ
+coded_level_at loads n pace slots dones slot =
     sum_below (arrived_of loads slots slot) n - sum_below (left_of loads dones (tick_of pace slot)) n
 
 -- the packets of the first n sets arrive in these slots, in order, each at most 450,000 ticks before its set is shown,
@@ -33,9 +33,9 @@ pub record IsArrival (loads : List WriteLoad) (n : ℕ) (pace : Pace) (slots don
   pub window : (i k : ℕ) → i < n → k < packets_of loads i
       → (load_of loads i).pts ≤ tick_of pace (slot_of loads slots i k) + SEND_WINDOW
   pub sets : length dones ≡ n
-  pub done : (i : ℕ) → i < n → slice_index dones i ≡ done_of loads pace slots i
+  pub done : (i : ℕ) → i < n → slice_index dones i ≡ set_done_at loads pace slots i
   pub level : (i k : ℕ) → i < n → k < packets_of loads i
-      → level_at loads n pace slots dones (slot_of loads slots i k) ≤ pace.coded
+      → coded_level_at loads n pace slots dones (slot_of loads slots i k) ≤ pace.coded
 
 -- in no arrival of the first n sets, or of more, one of their packets stands earlier or one of the sets is done earlier
 pub record IsEarliest (loads : List WriteLoad) (n : ℕ) (pace : Pace) (table : Timetable) : Type 0 where

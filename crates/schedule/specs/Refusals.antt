@@ -43,12 +43,12 @@ pub record IsFirstLate (loads : List WriteLoad) (pace : Pace) (set done shown : 
 
 -- the cause of a refusal: the first set that is too large, has too long a segment or is too late; want of memory has
 -- none
-abbrev pub IsCause : List WriteLoad → Pace → ScheduleFault → Type 0
-IsCause loads pace Memory = ⊤
-IsCause loads pace (CodedFull set size) = IsFirstFull loads pace set size
-IsCause loads pace (Late set done shown) = IsFirstLate loads pace set done shown
-IsCause loads pace (SegmentFull set longest) = IsFirstLong loads pace set longest
+abbrev pub IsScheduleCause : List WriteLoad → Pace → ScheduleFault → Type 0
+IsScheduleCause loads pace Memory = ⊤
+IsScheduleCause loads pace (CodedFull set size) = IsFirstFull loads pace set size
+IsScheduleCause loads pace (Late set done shown) = IsFirstLate loads pace set done shown
+IsScheduleCause loads pace (SegmentFull set longest) = IsFirstLong loads pace set longest
 
 -- this fault is answered, or want of memory
-abbrev pub IsRefusal : {T : Type 0} → ScheduleFault → Result T ScheduleFault → Type 0
-IsRefusal fault result = MatchResult result (λ _. ⊥) (λ told. (told ≡ Memory) ⊎ (told ≡ fault))
+abbrev pub AnswersScheduleFault : {T : Type 0} → ScheduleFault → Result T ScheduleFault → Type 0
+AnswersScheduleFault fault result = MatchResult result (λ _. ⊥) (λ told. (told ≡ Memory) ⊎ (told ≡ fault))

@@ -36,8 +36,8 @@ shown_before loads (suc i) = (load_of loads i).pts
 
 -- the tick at which set i is done: it is decoded byte by byte and painted once its last packet is there and the set
 -- before is shown
-abbrev pub done_of : List WriteLoad → Pace → List ℕ → ℕ → ℕ
-done_of loads pace slots i =
+abbrev pub set_done_at : List WriteLoad → Pace → List ℕ → ℕ → ℕ
+set_done_at loads pace slots i =
     done_tick (tick_of pace (slot_of loads slots i (packets_of loads i - 1))) (shown_before loads i) (load_of loads i)
 
 -- these are the slots and done ticks of the first n sets: each packet stands in the least slot in which it can
@@ -45,7 +45,7 @@ pub record IsSchedule (loads : List WriteLoad) (n : ℕ) (pace : Pace) (table : 
   pub packets : length table.slots ≡ first_packet loads n
   pub sets : (length table.ends ≡ n) × (length table.dones ≡ n)
   pub ends : (i : ℕ) → i < n → slice_index table.ends i ≡ first_packet loads (i + 1)
-  pub dones : (i : ℕ) → i < n → slice_index table.dones i ≡ done_of loads pace table.slots i
+  pub dones : (i : ℕ) → i < n → slice_index table.dones i ≡ set_done_at loads pace table.slots i
   pub stands : (i k : ℕ) → i < n → k < packets_of loads i
       → CanStand loads pace table.slots table.dones i k (slot_of loads table.slots i k)
   pub least : (i k slot : ℕ) → i < n → k < packets_of loads i

@@ -3,7 +3,7 @@ ghost use Rattle.std.specs.List.Sorted.{IsStrictlyIncreasing};
 ghost use Rattle.sub_base.specs.Pace.{tick_of, pace_of, IsSending, IsSound};
 ghost use Rattle.schedule.specs.Slots.{slots_of as slots_of_set, Timetable, IsSchedule, IsOnTime, IsLoad};
 ghost use Rattle.schedule.specs.Arrivals.{IsArrival, IsEarliest, IsHopeless};
-ghost use Rattle.schedule.specs.Refusals.{IsCause, IsRefusal};
+ghost use Rattle.schedule.specs.Refusals.{IsScheduleCause, AnswersScheduleFault};
 ghost use Rattle.schedule.specs.declared.fault.ScheduleFault.TheVariants.{Memory};
 
 use crate::fault::ScheduleFault;
@@ -52,7 +52,7 @@ impl Schedule {
             (IsSchedule loads.now (length loads.now) (pace_of origin profile.now)) }
         ensures on_time { IfOk result
             (IsOnTime loads.now (length loads.now) (pace_of origin profile.now)) }
-        ensures cause { IfErr result (IsCause loads.now (pace_of origin profile.now)) }
+        ensures cause { IfErr result (IsScheduleCause loads.now (pace_of origin profile.now)) }
 
         // The buffer never overflows, and no other arrival of the same packets has a packet or a
         // set earlier.
@@ -74,8 +74,8 @@ impl Schedule {
             → IsOnTime loads.now (length loads.now) (pace_of origin profile.now) table
             → MatchResult result (λ made. made ≡ table) (λ fault. fault ≡ Memory) }
         ensures every_fault { (fault : ScheduleFault)
-            → IsCause loads.now (pace_of origin profile.now) fault → fault ≢ Memory
-            → IsRefusal fault result }
+            → IsScheduleCause loads.now (pace_of origin profile.now) fault → fault ≢ Memory
+            → AnswersScheduleFault fault result }
     {
         Schedule::search(alloc, loads, origin, profile)
     }
@@ -94,7 +94,7 @@ impl Schedule {
             (IsSchedule loads.now (length loads.now) (pace_of origin profile.now)) }
         ensures on_time { IfOk result
             (IsOnTime loads.now (length loads.now) (pace_of origin profile.now)) }
-        ensures cause { IfErr result (IsCause loads.now (pace_of origin profile.now)) }
+        ensures cause { IfErr result (IsScheduleCause loads.now (pace_of origin profile.now)) }
         ensures rise { IfOk result (λ table. IsStrictlyIncreasing table.slots) }
         ensures small { IfOk result (λ table. All (λ slot. slot < 2 ^ 56) table.slots) }
     {

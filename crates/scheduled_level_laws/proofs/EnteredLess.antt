@@ -11,7 +11,7 @@ use Rattle.schedule.proofs.PacketLaws.{payloads, load_at}
 use Rattle.schedule.proofs.SumLaws.{sum_below-le, sum_below-same}
 use Rattle.schedule.specs.Arrivals.{payload_by, arrived_of}
 use Rattle.schedule.specs.Packets.{sum_below, load_of, size_of, packets_of, payload_of}
-use Rattle.schedule.specs.Slots.{slot_of, left_of, shown_before, done_of as scheduled_done}
+use Rattle.schedule.specs.Slots.{slot_of, left_of, shown_before, set_done_at as scheduled_done}
 use Rattle.scheduled_level_laws.specs.EnteredCalls.{Entry, from_of, heard_load, is_whole}
 use Rattle.scheduled_level_laws.proofs.EnteredSums.{AreSlots, heard_of, heard_size, all_below}
 use Rattle.scheduled_level_laws.proofs.EnteredLevels.{IsEntry, heard_before, heard_done, from_within, gone_of, came_of}

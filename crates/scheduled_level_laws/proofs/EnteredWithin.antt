@@ -11,9 +11,9 @@ use Rattle.buffer_model.specs.Within.{AreWithin}
 use Rattle.schedule.proofs.BufferLaws.{tick_of-rises}
 use Rattle.schedule.proofs.PacketLaws.{payloads}
 use Rattle.schedule.proofs.SumLaws.{sum_below-zero, sum_below-suc, sum_below-more, sum_below-le, sum_below-same}
-use Rattle.schedule.specs.Arrivals.{payload_by, arrived_of, level_at as scheduled_level}
+use Rattle.schedule.specs.Arrivals.{payload_by, arrived_of, coded_level_at as scheduled_level}
 use Rattle.schedule.specs.Packets.{sum_below, load_of, size_of, packets_of, payload_of, bytes_with}
-use Rattle.schedule.specs.Slots.{Timetable, slot_of, left_of, done_of as scheduled_done}
+use Rattle.schedule.specs.Slots.{Timetable, slot_of, left_of, set_done_at as scheduled_done}
 use Rattle.scheduled_level_laws.specs.EnteredCalls.{Entry, from_of, counts, packet_calls, heard_load, is_whole, calls_of_set, entered_calls}
 use Rattle.scheduled_level_laws.proofs.EnteredSums.{AreSlots, in_order, last_packet, heard_of, packets_arrived, packets_left}
 use Rattle.scheduled_level_laws.proofs.EnteredLevels.{IsEntry, heard_done, gone_of, came_of, set_done, all_arrived, all_left}

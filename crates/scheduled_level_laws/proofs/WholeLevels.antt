@@ -9,9 +9,9 @@ use Rattle.buffer_model.specs.Calls.{level_at}
 use Rattle.schedule.proofs.BufferLaws.{left_of-no}
 use Rattle.schedule.proofs.PacketLaws.{load_at}
 use Rattle.schedule.proofs.SumLaws.{sum_below-zero, sum_below-same}
-use Rattle.schedule.specs.Arrivals.{payload_by, arrived_of, level_at as scheduled_level}
+use Rattle.schedule.specs.Arrivals.{payload_by, arrived_of, coded_level_at as scheduled_level}
 use Rattle.schedule.specs.Packets.{sum_below, load_of, size_of, packets_of, payload_of}
-use Rattle.schedule.specs.Slots.{Timetable, slot_of, left_of, shown_before, done_of as scheduled_done}
+use Rattle.schedule.specs.Slots.{Timetable, slot_of, left_of, shown_before, set_done_at as scheduled_done}
 use Rattle.scheduled_level_laws.specs.EnteredCalls.{from_of, heard_load, is_whole, entered_calls, whole_entry, planned_painting}
 use Rattle.scheduled_level_laws.proofs.EnteredSums.{AreSlots, last_packet, heard_of}
 use Rattle.scheduled_level_laws.proofs.EnteredLevels.{IsEntry, heard_before, heard_done, gone_of, came_of, all_arrived, all_left}

@@ -11,7 +11,7 @@ use Rattle.schedule.specs.Slots.{Timetable, slots_of, start_of}
 use Rattle.schedule.proofs.SumLaws.{sum_below-rises, sum_below-suc, sum_below-zero}
 use Rattle.sent_sets.specs.SentStream.{AreSizedAs}
 use Rattle.sent_sets.proofs.PacketCounts.{count_before}
-use Rattle.slot_stream.specs.KeptPackets.{IsKept, packets_from}
+use Rattle.slot_stream.specs.KeptPackets.{HaveRisingSlots, packets_from}
 use Rattle.slot_stream.specs.SlotStream.{IsPiece, Piece, all_pieces, packets_before, pieces_of}
 use Rattle.slot_stream.proofs.FrontPackets.{length-before}
 use Rattle.slot_stream.proofs.KeptLaws.{left_of, left_packets, length-numbered, numbered_whole}
@@ -142,7 +142,7 @@ left_behind pid pieces slots n sent count each same within before =
 
 -- these are kept in order
 pub left_kept : (pid : ℕ) (pieces : List Piece) (slots : List ℕ) (n : ℕ) → All IsPiece pieces
-    → length pieces ≡ length slots → IsStrictlyIncreasing slots → IsKept (left_of pid pieces slots n)
+    → length pieces ≡ length slots → IsStrictlyIncreasing slots → HaveRisingSlots (left_of pid pieces slots n)
 left_kept pid pieces slots n each same rising = record {
   pairs =
       omega (

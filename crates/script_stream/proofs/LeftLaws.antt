@@ -10,8 +10,8 @@ use Rattle.sent_sets.proofs.PacketCounts.{count_pieces}
 use Rattle.set_coder.specs.SetSegments.{AreSetPackets}
 use Rattle.set_coder.specs.SetSizes.{IsSetLoad}
 use Rattle.set_coder.proofs.OnePackets.{one_packets}
-use Rattle.shown_stream.specs.Compiled.{AreLoads, AreUnits, all_units}
-use Rattle.slot_stream.specs.KeptPackets.{IsKept, Kept, numbered, packets_from}
+use Rattle.shown_stream.specs.Compiled.{AreLoads, AreUnitsOfSets, all_units}
+use Rattle.slot_stream.specs.KeptPackets.{HaveRisingSlots, SlottedPackets, numbered, packets_from}
 use Rattle.slot_stream.specs.SlotStream.{IsPiece, Piece, all_pieces, slot_count}
 use Rattle.slot_stream.proofs.FrontPackets.{all_are_pieces, length-before}
 use Rattle.slot_stream.proofs.KeptLaws.{left_of}
@@ -35,7 +35,7 @@ AllZip-drop R (suc n) (x ∷ xs) (y ∷ ys) all = AllZip-drop R n xs ys all.1
 
 -- the PES packets of sets are one list for each
 one_units : (script : Script) (page : ℕ) (sets : List PlannedSet) (units others : List (List (List ℕ)))
-    → AreUnits script page sets units → AreUnits script page sets others → units ≡ others
+    → AreUnitsOfSets script page sets units → AreUnitsOfSets script page sets others → units ≡ others
 one_units script page [] [] [] first second = refl
 one_units script page [] [] (other ∷ others) first second = absurd second
 one_units script page [] (own ∷ units) others first second = absurd first
@@ -50,7 +50,7 @@ one_units script page (set ∷ sets) (own ∷ units) (other ∷ others) first se
 pub behind_cut : (script : Script) (page f : ℕ) (sets given : List PlannedSet) (loads lent : List WriteLoad)
     (written seen : List (List ℕ)) → AreLoads script sets loads → given ≡ drop f sets → lent ≡ drop f loads
     → seen ≡ written → ((units : List (List (List ℕ))) × AreWritten script page given written units)
-    → (units : List (List (List ℕ))) × AreUnits script page (drop f sets) units × AreCut lent seen units
+    → (units : List (List (List ℕ))) × AreUnitsOfSets script page (drop f sets) units × AreCut lent seen units
 behind_cut script page f sets given loads lent written seen asked given_is lent_is seen_is own =
     let units = own.0 in
     let are : AreWritten script page (drop f sets) written units =
@@ -88,20 +88,20 @@ first_among script sets given loads slots all f n asked first packets given_is a
 
 -- what is made of their pieces are their packets
 pub kept_are : (script : Script) (pid page n : ℕ) (sets : List PlannedSet) (units : List (List (List ℕ)))
-    (slots given : List ℕ) (pieces lent : List Piece) (kept : Kept) → AreUnits script page sets units
+    (slots given : List ℕ) (pieces lent : List Piece) (kept : SlottedPackets) → AreUnitsOfSets script page sets units
     → given ≡ slots → lent ≡ pieces → pieces ≡ all_pieces (all_units units)
     → kept ≡ record { slots = given; packets = numbered pid n lent }
     → AreKeptOf script pid page n sets slots kept
 kept_are script pid page n sets units slots given pieces lent kept carried given_is lent_is are is = record {
   units = units;
   carried = carried;
-  slots_are = ap (λ (k : Kept). k.slots) is ∙ given_is;
-  packets_are = ap (λ (k : Kept). k.packets) is ∙ ap (numbered pid n) (lent_is ∙ are);
+  slots_are = ap (λ (k : SlottedPackets). k.slots) is ∙ given_is;
+  packets_are = ap (λ (k : SlottedPackets). k.packets) is ∙ ap (numbered pid n) (lent_is ∙ are);
 }
 
 -- ---- what is left
 
-same_kept : (kept : Kept) (pid n : ℕ) (pieces : List Piece) (slots : List ℕ) → kept.slots ≡ drop n slots
+same_kept : (kept : SlottedPackets) (pid n : ℕ) (pieces : List Piece) (slots : List ℕ) → kept.slots ≡ drop n slots
     → kept.packets ≡ numbered pid n (drop n pieces) → left_of pid pieces slots n ≡ kept
 same_kept kept pid n pieces slots s p = λ i. record { slots = sym s i; packets = sym p i }
 
@@ -117,7 +117,7 @@ are_left script pid page sent sets loads table f n left fits_page ready first be
     let sized = sized_as script sets loads all ready.asked units.2 in
     let pieces = all_pieces (all_units all) in
     let slots = table.slots in
-    let behind : AreUnits script page (drop f sets) (drop f all) =
+    let behind : AreUnitsOfSets script page (drop f sets) (drop f all) =
     AllZip-drop (AreSetPackets script page) f sets all units.1 in
     let same : kept.units ≡ drop f all =
     one_units script page (drop f sets) kept.units (drop f all) kept.carried behind in
@@ -142,6 +142,6 @@ are_left script pid page sent sets loads table f n left fits_page ready first be
         behind =
             left_behind pid pieces slots n sent (slot_count slots) each many within before
             ∙ (λ i. packets_from (is i) sent (sym count i - sent));
-        kept = subst IsKept is (left_kept pid pieces slots n each many ready.slotted.rise);
+        kept = subst HaveRisingSlots is (left_kept pid pieces slots n each many ready.slotted.rise);
       };
     }

@@ -2,7 +2,7 @@
 use Rattle.std.proofs.Common.{◌≡◌, ap, List, length, arith}
 use Rattle.cue_list.specs.declared.script.Script.{Script}
 use Rattle.page_epoch.specs.declared.planned_set.PlannedSet.{PlannedSet}
-use Rattle.schedule.specs.Refusals.{IsCause}
+use Rattle.schedule.specs.Refusals.{IsScheduleCause}
 use Rattle.schedule.specs.declared.fault.ScheduleFault.{ScheduleFault}
 use Rattle.schedule.specs.declared.fault.ScheduleFault.TheVariants as schedule
 use Rattle.set_coder.specs.SetSizes.{IsSetLoad}
@@ -14,7 +14,7 @@ use Rattle.script_stream.specs.Private.Sending.{IsAmong}
 
 -- the set of a schedule's fault is one of the plan
 pub among : (script : Script) (sets : List PlannedSet) (loads given : List WriteLoad) (pace : Pace)
-    (refused : ScheduleFault) → AreLoads script sets loads → given ≡ loads → IsCause given pace refused
+    (refused : ScheduleFault) → AreLoads script sets loads → given ≡ loads → IsScheduleCause given pace refused
     → IsAmong sets refused
 among script sets loads given pace schedule.Memory asked same cause = tt
 among script sets loads given pace (schedule.CodedFull set size) asked same cause =

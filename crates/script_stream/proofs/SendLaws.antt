@@ -9,7 +9,8 @@ use Rattle.schedule.specs.Packets.{first_packet, no_load}
 use Rattle.schedule.specs.Slots.{IsLoad, IsOnTime, IsSchedule, Timetable}
 use Rattle.set_coder.specs.SetSizes.{FitsPackets, IsSetLoad}
 use Rattle.sent_sets.proofs.PacketCounts.{count_pieces}
-use Rattle.shown_stream.specs.Compiled.{AreLoads, AreSizedAs, AreUnits, all_units, IsPlanned, sent_pace}
+use Rattle.shown_stream.specs.Compiled.{AreLoads, AreUnitsOfSets, all_units, IsPlanned, sent_pace, Compiling}
+use Rattle.sent_sets.specs.SentStream.{AreSizedAs}
 use Rattle.slot_stream.specs.SlotStream.{Piece, all_pieces, slot_count, stream_of}
 use Rattle.stream_syntax.specs.declared.wire.TheConstants.{NULL_PID}
 use Rattle.sub_base.specs.Pace.{pace_of}
@@ -76,11 +77,11 @@ paced name script P loads given receiver is_profile same holds =
     subst (λ (p : Profile). P loads (pace_of script.origin p)) is_profile
     (subst (λ (l : List WriteLoad). P l (pace_of script.origin receiver)) same holds)
 
-module _ (name : ProfileName) (pid page : ℕ) (script : Script) (sets : List PlannedSet) (loads : List WriteLoad)
-    (table : Timetable) (written : List (List ℕ)) (planned : IsPlanned name script sets loads)
-    (own : (units : List (List (List ℕ))) × AreWritten script page sets written units) where
+module _ (compiling : Compiling) (sets : List PlannedSet) (loads : List WriteLoad)
+    (table : Timetable) (written : List (List ℕ)) (planned : IsPlanned compiling.profile compiling.script sets loads)
+    (own : (units : List (List (List ℕ))) × AreWritten compiling.script compiling.page sets written units) where
   cut_own : AreCut loads written own.0
-  cut_own = written_cut script page sets loads written own.0 planned.asked own.1
+  cut_own = written_cut compiling.script compiling.page sets loads written own.0 planned.asked own.1
 
   same_units : own.0 ≡ units_in loads written
   same_units = one_cut loads written own.0 cut_own
@@ -90,10 +91,10 @@ module _ (name : ProfileName) (pid page : ℕ) (script : Script) (sets : List Pl
   cut_in = subst (AreCut loads written) same_units cut_own
 
   -- it is the stream of the script
-  pub is_sent : All IsLoad loads → IsSchedule loads (length loads) (sent_pace name script) table
-      → IsOnTime loads (length loads) (sent_pace name script) table
-      → IsSentFor name pid page script (record {
-        pid = pid;
+  pub is_sent : All IsLoad loads → IsSchedule loads (length loads) (sent_pace compiling.profile compiling.script) table
+      → IsOnTime loads (length loads) (sent_pace compiling.profile compiling.script) table
+      → IsSentFor compiling (record {
+        pid = compiling.pid;
         sets = sets;
         loads = loads;
         units = units_in loads written;
@@ -106,7 +107,7 @@ module _ (name : ProfileName) (pid page : ℕ) (script : Script) (sets : List Pl
       planned = planned;
       each = each;
       units = units_in loads written;
-      carried = subst (AreUnits script page sets) same_units own.1.carried;
+      carried = subst (AreUnitsOfSets compiling.script compiling.page sets) same_units own.1.carried;
       sized = cut_in.sized;
       table = table;
       schedule = schedule;
@@ -119,9 +120,9 @@ module _ (name : ProfileName) (pid page : ℕ) (script : Script) (sets : List Pl
   }
 
   -- it can be written
-  pub is_writable : pid < NULL_PID → length table.slots ≡ first_packet loads (length loads)
+  pub is_writable : compiling.pid < NULL_PID → length table.slots ≡ first_packet loads (length loads)
       → IsStrictlyIncreasing table.slots → All (λ slot. slot < 2 ^ 56) table.slots
-      → IsWritable pid loads written table
+      → IsWritable compiling.pid loads written table
   is_writable below packets rise small =
       record { pid_is = omega arith; cut = cut_in; packets = packets; rise = rise; small = small }
 

@@ -19,7 +19,7 @@ use Rattle.shown_stream.proofs.Sent.CompiledPackets.{packets_in, are_packets}
 use Rattle.shown_stream.proofs.Sent.PlannedTimes.{pts_of, times_in_span}
 use Rattle.shown_stream.proofs.Shown.CompiledShown.{compiled_entered}
 use Rattle.shown_stream.proofs.Shown.FirstTimes.{first_of_all_times}
-use Rattle.shown_stream.specs.Compiled.{IsCompiledFor, IsCompiledTo}
+use Rattle.shown_stream.specs.Compiled.{IsCompiledFor, IsCompiledTo, Compiling}
 use Rattle.shown_stream.specs.SentSets.{sent_from, sent_sets, times_from, times_received}
 use Rattle.shown_stream.specs.Shows.{IsAnchorOf, Suits}
 use Rattle.sub_base.specs.Profile.{profile_of}
@@ -35,9 +35,9 @@ pub is_free : (pid : ℕ) → pid < NULL_PID → IsFree pid
 is_free pid below = record { small = omega arith; no_null = λ same. omega (arith, same) }
 
 -- bytes that are the same are compiled from the same sets
-abbrev pub compiled_to : (profile : ProfileName) (pid page : ℕ) (script : Script) (bytes same : List ℕ)
-    → bytes ≡ same → IsCompiledTo profile pid page script bytes → IsCompiledTo profile pid page script same
-compiled_to profile pid page script bytes same is compiled = record {
+abbrev pub compiled_to : (compiling : Compiling) (bytes same : List ℕ)
+    → bytes ≡ same → IsCompiledTo compiling bytes → IsCompiledTo compiling same
+compiled_to compiling bytes same is compiled = record {
   sets = compiled.sets;
   loads = compiled.loads;
   planned = compiled.planned;
@@ -95,67 +95,70 @@ received_suits name script table sets sendings anchor plan early near =
 -- ---- what is shown
 
 -- the packets that a script is compiled to are shown
-pub compiled_is_shown : (profile : ProfileName) (pid page : ℕ) (script : Script) (bytes : List ℕ)
-    → pid < NULL_PID → IsCompiledFor profile → (compiled : IsCompiledTo profile pid page script bytes)
-    → IsShownRightly profile pid page script compiled.sets compiled.loads compiled.table bytes
-compiled_is_shown profile pid page script bytes below made compiled =
-    let free = is_free pid below in
-    let known = are_packets profile pid page script bytes free made compiled in
+pub compiled_is_shown : (compiling : Compiling) (bytes : List ℕ)
+    → compiling.pid < NULL_PID → IsCompiledFor compiling.profile → (compiled : IsCompiledTo compiling bytes)
+    → IsShownRightly compiling compiled.sets compiled.loads compiled.table bytes
+compiled_is_shown compiling bytes below made compiled =
+    let free = is_free compiling.pid below in
+    let known = are_packets compiling bytes free made compiled in
     record {
-      packets = packets_in profile pid page script bytes compiled;
+      packets = packets_in compiling bytes compiled;
       whole = known.whole;
       joined = known.joined;
       suits =
-          λ missed anchor early near. anchor_suits profile script compiled.table compiled.sets missed anchor
+          λ missed anchor early near. anchor_suits compiling.profile compiling.script compiled.table compiled.sets
+          missed anchor
           compiled.planned.plan early near;
       first_suits =
           λ missed anchor early near. first_of_all_times anchor missed (sent_sets compiled.table compiled.sets)
-          (anchor_suits profile script compiled.table compiled.sets missed anchor compiled.planned.plan early near);
+          (anchor_suits compiling.profile compiling.script compiled.table compiled.sets missed anchor
+          compiled.planned.plan early near);
       received_suits =
-          λ sendings anchor early near. received_suits profile script compiled.table compiled.sets sendings anchor
+          λ sendings anchor early near. received_suits compiling.profile compiling.script compiled.table compiled.sets
+          sendings anchor
           compiled.planned.plan early near;
-      entered = compiled_entered profile pid page script bytes free made compiled;
-      cut = compiled_cut profile pid page script bytes free made compiled;
+      entered = compiled_entered compiling bytes free made compiled;
+      cut = compiled_cut compiling bytes free made compiled;
       good = λ missed. record {
-        good = compiled_good profile pid page script bytes compiled known missed;
-        only = good_compiled profile pid page script bytes compiled known missed;
+        good = compiled_good compiling bytes compiled known missed;
+        only = good_compiled compiling bytes compiled known missed;
       };
-      late = λ missed. late_is_cut pid missed (packets_in profile pid page script bytes compiled);
+      late = λ missed. late_is_cut compiling.pid missed (packets_in compiling bytes compiled);
       stays =
-          λ missed anchor suits. compiled_stays profile pid page script bytes free compiled known missed anchor suits;
-      checked = checked_calls profile pid page script bytes free compiled known;
-      scheduled = λ anchor suits. compiled_scheduled profile pid page script bytes free compiled known anchor suits;
+          λ missed anchor suits. compiled_stays compiling bytes free compiled known missed anchor suits;
+      checked = checked_calls compiling bytes free compiled known;
+      scheduled = λ anchor suits. compiled_scheduled compiling bytes free compiled known anchor suits;
     }
 
 -- the packets of a stream that is made of a script are shown
-pub sent_is_shown : (profile : ProfileName) (pid page : ℕ) (script : Script) (sent : SentScript) → pid < NULL_PID
-    → IsCompiledFor profile → IsSentFor profile pid page script sent
-    → IsShownRightly profile pid page script sent.sets sent.loads sent.table (stream_bytes sent)
-sent_is_shown profile pid page script sent below made is =
+pub sent_is_shown : (compiling : Compiling) (sent : SentScript) → compiling.pid < NULL_PID
+    → IsCompiledFor compiling.profile → IsSentFor compiling sent
+    → IsShownRightly compiling sent.sets sent.loads sent.table (stream_bytes sent)
+sent_is_shown compiling sent below made is =
     let compiled = is.compiled in
     let bytes = stream_bytes sent in
-    subst (λ (table : Timetable). IsShownRightly profile pid page script sent.sets sent.loads table bytes)
+    subst (λ (table : Timetable). IsShownRightly compiling sent.sets sent.loads table bytes)
     is.same_table
     (subst
-    (λ (loads : List WriteLoad). IsShownRightly profile pid page script sent.sets loads compiled.table bytes)
+    (λ (loads : List WriteLoad). IsShownRightly compiling sent.sets loads compiled.table bytes)
     is.same_loads
     (subst
-    (λ (sets : List PlannedSet). IsShownRightly profile pid page script sets compiled.loads compiled.table bytes)
-    is.same_sets (compiled_is_shown profile pid page script bytes below made compiled)))
+    (λ (sets : List PlannedSet). IsShownRightly compiling sets compiled.loads compiled.table bytes)
+    is.same_sets (compiled_is_shown compiling bytes below made compiled)))
 
 -- and so are its packets by what the script is compiled to
-pub shown_of_sent : (profile : ProfileName) (pid page : ℕ) (script : Script) (sent : SentScript)
-    → (is : IsSentFor profile pid page script sent)
-    → IsShownRightly profile pid page script sent.sets sent.loads sent.table (stream_bytes sent)
-    → IsShownRightly profile pid page script is.compiled.sets is.compiled.loads is.compiled.table (stream_bytes sent)
-shown_of_sent profile pid page script sent is shown =
+pub shown_of_sent : (compiling : Compiling) (sent : SentScript)
+    → (is : IsSentFor compiling sent)
+    → IsShownRightly compiling sent.sets sent.loads sent.table (stream_bytes sent)
+    → IsShownRightly compiling is.compiled.sets is.compiled.loads is.compiled.table (stream_bytes sent)
+shown_of_sent compiling sent is shown =
     let compiled = is.compiled in
     let bytes = stream_bytes sent in
-    subst (λ (table : Timetable). IsShownRightly profile pid page script compiled.sets compiled.loads table bytes)
+    subst (λ (table : Timetable). IsShownRightly compiling compiled.sets compiled.loads table bytes)
     (sym is.same_table)
     (subst
-    (λ (loads : List WriteLoad). IsShownRightly profile pid page script compiled.sets loads sent.table bytes)
+    (λ (loads : List WriteLoad). IsShownRightly compiling compiled.sets loads sent.table bytes)
     (sym is.same_loads)
     (subst
-    (λ (sets : List PlannedSet). IsShownRightly profile pid page script sets sent.loads sent.table bytes)
+    (λ (sets : List PlannedSet). IsShownRightly compiling sets sent.loads sent.table bytes)
     (sym is.same_sets) shown))

@@ -13,13 +13,13 @@ use Rattle.stream_syntax.specs.FieldBlocks.{AreFieldBlocks, DrawsPicture, IsDraw
 use Rattle.stream_syntax.specs.PixelBlocks.{IsNoDeeper}
 use Rattle.stream_syntax.specs.Segments.{IsWritable, SegmentValue, end_of_set, spelled}
 use Rattle.stream_syntax.specs.declared.wire.TheConstants.{TIME_ROUND}
-use Rattle.cue_list.specs.Sound.{IsSound}
+use Rattle.cue_list.specs.Sound.{IsSoundScript}
 use Rattle.cue_list.specs.declared.epoch.Cue.{Cue}
 use Rattle.cue_list.specs.declared.epoch.Epoch.{Epoch}
 use Rattle.cue_list.specs.declared.limits.TheConstants.{MOST_CUES}
 use Rattle.cue_list.specs.declared.script.Script.{Script}
 use Rattle.page_epoch.specs.Live.{cue_at}
-use Rattle.page_epoch.specs.Sendable.{HasCue, IsSendable}
+use Rattle.page_epoch.specs.Sendable.{HasCue, IsOfItsEpoch}
 use Rattle.page_epoch.specs.declared.planned_set.PlannedSet.{PlannedSet}
 use Rattle.set_coder.specs.Private.BothBlocks.{AreBothBlocks}
 use Rattle.set_coder.specs.Private.UnitParts.{part_packet}
@@ -33,7 +33,7 @@ use Rattle.set_coder.proofs.ObjectLaws.{object_is, object_sized, object_writable
 use Rattle.set_coder.proofs.SetPacketLaws.{objects_fit, set_packets, units_of}
 use Rattle.set_coder.proofs.UsableLaws.{usable}
 use Rattle.set_coder.proofs.WritableLaws.{end_writable, leading_writable}
-use Rattle.shown_stream.specs.Compiled.{AreLoads, AreUnits}
+use Rattle.shown_stream.specs.Compiled.{AreLoads, AreUnitsOfSets}
 use Rattle.script_stream.specs.Private.SetUnits.{AreSized}
 use Rattle.script_stream.proofs.SomeBlocks.{some_blocks}
 
@@ -108,11 +108,11 @@ some_objects pictures epoch page (place ∷ places) (size ∷ sizes) fits_page d
 
 -- the pictures of a script are pictures
 pictures_drawn : (origin width height refresh : ℕ) (epochs : List Epoch) (pictures : List Picture)
-    → ∥ IsSound origin width height refresh epochs pictures ∥₁ → All IsPicture pictures
+    → ∥ IsSoundScript origin width height refresh epochs pictures ∥₁ → All IsPicture pictures
 pictures_drawn origin width height refresh epochs pictures sound =
     ∥∥₁_elim sound (hlevel props) (λ s. s.drawn)
 
-some_segments : (script : Script) (page : ℕ) (set : PlannedSet) → page < 2 ^ 16 → IsSendable script set
+some_segments : (script : Script) (page : ℕ) (set : PlannedSet) → page < 2 ^ 16 → IsOfItsEpoch script set
     → FitsPackets script set → (segments : List SegmentValue) × AreSetSegments script page set segments
 some_segments script page set fits_page sendable fits =
     let epoch = sendable.epoch in
@@ -144,7 +144,7 @@ some_segments script page set fits_page sendable fits =
 -- ---- packets
 
 some_packets : (script : Script) (page : ℕ) (set : PlannedSet) (lengths : List ℕ) → page < 2 ^ 16
-    → IsSendable script set → FitsPackets script set → AreUnitSizes script set lengths
+    → IsOfItsEpoch script set → FitsPackets script set → AreUnitSizes script set lengths
     → (packets : List (List ℕ)) × AreSetPackets script page set packets
     × AreUnitSizes script set (map length packets)
 some_packets script page set lengths fits_page sendable fits sized =
@@ -158,16 +158,16 @@ some_packets script page set lengths fits_page sendable fits sized =
 
 -- sets that can be sent, and whose loads are known, have packets
 pub some_units : (script : Script) (page : ℕ) (sets : List PlannedSet) (loads : List WriteLoad) → page < 2 ^ 16
-    → All (IsSendable script) sets → All (FitsPackets script) sets → AreLoads script sets loads
-    → (units : List (List (List ℕ))) × AreUnits script page sets units × AreSized script sets units
+    → All (IsOfItsEpoch script) sets → All (FitsPackets script) sets → AreLoads script sets loads
+    → (units : List (List (List ℕ))) × AreUnitsOfSets script page sets units × AreSized script sets units
 some_units script page [] [] fits_page sendable fits asked = ([], tt, tt)
 some_units script page [] (load ∷ loads) fits_page sendable fits asked = absurd asked
 some_units script page (set ∷ sets) [] fits_page sendable fits asked = absurd asked
 some_units script page (set ∷ sets) (load ∷ loads) fits_page sendable fits asked =
     let first =
-    some_packets script page set load.units fits_page (All-head (IsSendable script) set sets sendable)
+    some_packets script page set load.units fits_page (All-head (IsOfItsEpoch script) set sets sendable)
     (All-head (FitsPackets script) set sets fits) asked.0.units in
     let others =
-    some_units script page sets loads fits_page (All-tail (IsSendable script) set sets sendable)
+    some_units script page sets loads fits_page (All-tail (IsOfItsEpoch script) set sets sendable)
     (All-tail (FitsPackets script) set sets fits) asked.1 in
     (first.0 ∷ others.0, (first.1, others.1), (first.2, others.2))

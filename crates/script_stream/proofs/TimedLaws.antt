@@ -3,7 +3,7 @@ use Rattle.std.proofs.Common.{◌≡◌, refl, subst, ◌^◌, ◌<◌, List, le
 use Rattle.std.specs.List.Sorted.{IsStrictlyIncreasing}
 use Rattle.cue_list.specs.declared.script.Script.{Script}
 use Rattle.page_epoch.specs.Plan.{IsPlan}
-use Rattle.page_epoch.specs.Sendable.{IsSendable}
+use Rattle.page_epoch.specs.Sendable.{IsOfItsEpoch}
 use Rattle.page_epoch.specs.declared.planned_set.PlannedSet.{PlannedSet}
 use Rattle.schedule.specs.Slots.{IsLoad, IsOnTime, IsSchedule, Timetable}
 use Rattle.shown_stream.specs.Compiled.{AreLoads, sent_pace}
@@ -19,7 +19,7 @@ use Rattle.script_stream.specs.Private.Timing.{IsTimed}
 -- what is scheduled of the loads that are lent is so of the plan's sets
 pub is_timed : (name : ProfileName) (script : Script) (sets own : List PlannedSet) (loads given : List WriteLoad)
     (receiver : Profile) (table : Timetable) → receiver ≡ profile_of name → IsPlan script (profile_of name) own
-    → All (IsSendable script) own → sets ≡ own → AreLoads script sets loads → All IsLoad loads → given ≡ loads
+    → All (IsOfItsEpoch script) own → sets ≡ own → AreLoads script sets loads → All IsLoad loads → given ≡ loads
     → IsSchedule given (length given) (pace_of script.origin receiver) table
     → IsOnTime given (length given) (pace_of script.origin receiver) table
     → IsStrictlyIncreasing table.slots → All (λ slot. slot < 2 ^ 56) table.slots

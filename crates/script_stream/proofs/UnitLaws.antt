@@ -11,7 +11,8 @@ use Rattle.set_coder.specs.SetSizes.{AreUnitSizes, IsSetLoad}
 use Rattle.set_coder.proofs.SetSizeLaws.{one_unit_sizes}
 use Rattle.sub_base.proofs.ListLaws.{pair_more}
 use Rattle.sub_base.specs.declared.load.WriteLoad.{WriteLoad}
-use Rattle.shown_stream.specs.Compiled.{AreSizedAs, all_units}
+use Rattle.shown_stream.specs.Compiled.{all_units}
+use Rattle.sent_sets.specs.SentStream.{AreSizedAs}
 use Rattle.slot_stream.specs.SlotStream.{all_pieces, pieces_of}
 use Rattle.script_stream.specs.Private.SetUnits.{AreSized, AreWritten, AreCut}
 use Rattle.slot_stream.specs.UnitBytes.{AreUnitsOf}

@@ -2,15 +2,15 @@
 use Rattle.std.specs.Prelude.{◌≡◌, ℕ, List, All, slice_get, Some}
 use Rattle.std.specs.Io.KnownBytes.{Keeps}
 use Rattle.cue_list.specs.declared.script.Script.{Script}
-use Rattle.page_epoch.specs.Refusals.{IsCause as IsPlanCause}
+use Rattle.page_epoch.specs.Refusals.{IsPlanCause}
 use Rattle.page_epoch.specs.declared.fault.PlanFault.{PlanFault}
 use Rattle.page_epoch.specs.declared.fault.PlanFault.TheVariants as plan
 use Rattle.page_epoch.specs.declared.planned_set.PlannedSet.{PlannedSet}
-use Rattle.schedule.specs.Refusals.{IsCause}
+use Rattle.schedule.specs.Refusals.{IsScheduleCause}
 use Rattle.schedule.specs.Slots.{IsLoad}
 use Rattle.schedule.specs.declared.fault.ScheduleFault.{ScheduleFault}
 use Rattle.schedule.specs.declared.fault.ScheduleFault.TheVariants as fault
-use Rattle.shown_stream.specs.Compiled.{IsCompiledTo, IsPlanned}
+use Rattle.shown_stream.specs.Compiled.{IsCompiledTo, IsPlanned, Compiling}
 use Rattle.sub_base.specs.Counts.{HasRisen}
 use Rattle.sub_base.specs.Endpoints.{AppendsPrefix, Received}
 use Rattle.sub_base.specs.Pace.{pace_of}
@@ -53,7 +53,7 @@ pub record IsScheduleRefused (profile : ProfileName) (script : Script) (row : �
   pub loads : List WriteLoad
   pub planned : IsPlanned profile script sets loads
   pub each : All IsLoad loads
-  pub cause : IsCause loads (pace_of script.origin (profile_of profile)) fault
+  pub cause : IsScheduleCause loads (pace_of script.origin (profile_of profile)) fault
   pub row_is : IsRowOf sets fault row
 
 -- neither plan nor schedule refuses the script
@@ -68,9 +68,9 @@ IsSendCause profile script (send.Plan fault) = IsPlanRefused profile script faul
 IsSendCause profile script (send.Schedule row fault) = IsScheduleRefused profile script row fault
 
 -- why the packets of a script were not all written, and what was: nothing, or a front of them where the sink failed
-abbrev pub IsCompileEnd : ProfileName → ℕ → ℕ → Script → Received → Received → CompileFault → Type 0
-IsCompileEnd profile pid page script before now (compile.Send fault) =
-    IsSendCause profile script fault × Keeps before.written now.written
-IsCompileEnd profile pid page script before now compile.Write =
-    (packets : List ℕ) × IsCompiledTo profile pid page script packets
+abbrev pub IsCompileEnd : Compiling → Received → Received → CompileFault → Type 0
+IsCompileEnd compiling before now (compile.Send fault) =
+    IsSendCause compiling.profile compiling.script fault × Keeps before.written now.written
+IsCompileEnd compiling before now compile.Write =
+    (packets : List ℕ) × IsCompiledTo compiling packets
     × AppendsPrefix before.written now.written packets × HasRisen before.faults now.faults

@@ -1,12 +1,10 @@
 -- A script as it is sent: its sets, their PES packets, and the slots of their transport packets.
 use Rattle.std.specs.Prelude.{◌≡◌, ℕ, List, [], ◌∷◌, take, drop}
-use Rattle.cue_list.specs.declared.script.Script.{Script}
 use Rattle.page_epoch.specs.declared.planned_set.PlannedSet.{PlannedSet}
 use Rattle.schedule.specs.Slots.{Timetable}
-use Rattle.shown_stream.specs.Compiled.{IsCompiledTo, all_units}
+use Rattle.shown_stream.specs.Compiled.{IsCompiledTo, all_units, Compiling}
 use Rattle.slot_stream.specs.SlotStream.{all_pieces, stream_of}
 use Rattle.sub_base.specs.declared.load.WriteLoad.{WriteLoad}
-use Rattle.sub_base.specs.declared.profile.ProfileName.{ProfileName}
 
 -- the PID of the packets, the sets with what sending each of them takes, the PES packets of each set, and the slots of
 -- all packets
@@ -33,8 +31,8 @@ units_in (load ∷ loads) [] = []
 units_in (load ∷ loads) (bytes ∷ written) = cut_at load.units bytes ∷ units_in loads written
 
 -- the script is compiled to these packets, by these sets, loads and slots
-pub record IsSentFor (profile : ProfileName) (pid page : ℕ) (script : Script) (sent : SentScript) : Type 0 where
-  pub compiled : IsCompiledTo profile pid page script (stream_bytes sent)
+pub record IsSentFor (compiling : Compiling) (sent : SentScript) : Type 0 where
+  pub compiled : IsCompiledTo compiling (stream_bytes sent)
   pub same_sets : compiled.sets ≡ sent.sets
   pub same_loads : compiled.loads ≡ sent.loads
   pub same_table : compiled.table ≡ sent.table

@@ -1,6 +1,6 @@
 ghost use Rattle.std.specs.Prelude.{◌<◌, IfErr, IfOk};
 ghost use Rattle.std.specs.Io.KnownBytes.{Appends};
-ghost use Rattle.shown_stream.specs.Compiled.{IsCompiledFor};
+ghost use Rattle.shown_stream.specs.Compiled.{IsCompiledFor, compiling_for};
 ghost use Rattle.stream_syntax.specs.declared.wire.TheConstants.{NULL_PID};
 ghost use Rattle.script_stream.specs.Refused.{IsCompileEnd};
 ghost use Rattle.script_stream.specs.SentScripts.{IsSentFor, stream_bytes};
@@ -26,15 +26,16 @@ pub fn compile_script<K: Sink>(
 ) -> Result<ScriptStream, CompileFault>
     requires pid { pid < NULL_PID }
     requires profile { IsCompiledFor profile }
-    ensures sent { IfOk result (IsSentFor profile pid page script.now) }
+    ensures sent { IfOk result (IsSentFor (compiling_for profile pid page script.now)) }
     ensures written { IfOk result (λ sent. Appends
         (K.received out.old).written (K.received out.new).written (stream_bytes sent)) }
 
     // What receivers show of these same packets of this same script, wherever they enter them and
     // whatever they lose.
-    ensures shown { IfOk result (λ sent. IsShownRightly profile pid page script.now
+    ensures shown { IfOk result (λ sent. IsShownRightly
+        (compiling_for profile pid page script.now)
         sent.sets sent.loads sent.table (stream_bytes sent)) }
-    ensures cause { IfErr result (IsCompileEnd profile pid page script.now
+    ensures cause { IfErr result (IsCompileEnd (compiling_for profile pid page script.now)
         (K.received out.old) (K.received out.new)) }
 {
     let stream = match ScriptStream::make(alloc, profile, pid, page, script) {

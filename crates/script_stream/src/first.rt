@@ -1,7 +1,5 @@
 ghost use Rattle.std.specs.Prelude.{◌≡◌, ◌<◌, ◌≤◌, ◌^◌};
-ghost use Rattle.std.specs.List.Sorted.{IsStrictlyIncreasing};
 ghost use Rattle.slot_stream.specs.SlotStream.{slot_count};
-ghost use Rattle.slot_stream.specs.SlotWalk.{IsNext};
 ghost use Rattle.script_stream.specs.Private.Timing.{AreFirst, AreSlotted};
 
 use schedule::Schedule;
@@ -32,14 +30,6 @@ pub fn first_sets(schedule: &Schedule, loads: &[WriteLoad], most: usize) -> Firs
         sets: loads.len(),
         packets,
     }
-}
-
-/// How many of rising slots lie before one.
-pub fn slots_before(slots: &[u64], slot: u64) -> usize
-    requires { IsStrictlyIncreasing slots.now }
-    ensures { IsNext slots.now result slot }
-{
-    slots.partition_point(|one| *one < slot)
 }
 
 /// How many slots there are up to the last one.

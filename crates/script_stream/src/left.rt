@@ -1,17 +1,17 @@
 ghost use Rattle.std.specs.Prelude.{ℕ, ◌<◌, List, drop, IfErr, IfOk};
 ghost use Rattle.set_coder.specs.KeptBlocks.{AreCoded};
-ghost use Rattle.shown_stream.specs.Compiled.{IsCompiledFor, IsCompiledTo};
+ghost use Rattle.shown_stream.specs.Compiled.{IsCompiledFor, IsCompiledTo, compiling_for};
 ghost use Rattle.script_stream.specs.LeftPackets.{ArePacketsLeft};
 ghost use Rattle.script_stream.specs.Refused.{IsSendCause};
 ghost use Rattle.script_stream.specs.Private.Timing.{AreFirst, AreKeptOf, AreLeftOf, AreReady};
 
 use crate::faults::SendFault;
-use crate::first::{FirstSets, count_of, first_sets, slots_before};
+use crate::first::{FirstSets, count_of, first_sets};
 use crate::timed::{Timed, plan_of};
 use crate::units::{pieces_of, units_of};
 use cue_list::Script;
 use set_coder::KeptBlocks;
-use slot_stream::KeptPackets;
+use slot_stream::{KeptPackets, first_from};
 use std::alloc::Global;
 use sub_base::{NoMemory, ProfileName};
 
@@ -42,7 +42,8 @@ pub fn packets_left(
     requires profile { IsCompiledFor profile }
     requires blocks { AreCoded script.now.pictures blocks.now.coded.items }
     ensures left { IfOk result (λ left. (packets : List ℕ)
-        × IsCompiledTo profile pid page script.now packets × ArePacketsLeft packets sent left) }
+        × IsCompiledTo (compiling_for profile pid page script.now) packets
+        × ArePacketsLeft packets sent left) }
     ensures cause { IfErr result (IsSendCause profile script.now) }
 {
     let plan = plan_of(alloc, profile, script)?;
@@ -72,7 +73,7 @@ fn left_of(
 {
     let slots = timed.schedule.all_slots();
     // The first sets, all of whose packets are sent, are not coded again.
-    let before = slots_before(slots, sent);
+    let before = first_from(slots, sent);
     let first = first_sets(&timed.schedule, timed.loads.as_slice(), before);
     let kept = kept_behind(alloc, pid, page, script, blocks, timed, first)?;
     Ok(PacketsLeft {

@@ -1,5 +1,5 @@
 ghost use Rattle.std.specs.Prelude.{All, IfOk};
-ghost use Rattle.page_epoch.specs.Sendable.{IsSendable};
+ghost use Rattle.page_epoch.specs.Sendable.{IsOfItsEpoch};
 ghost use Rattle.schedule.specs.Slots.{IsLoad};
 ghost use Rattle.set_coder.specs.KeptBlocks.{AreCoded};
 ghost use Rattle.shown_stream.specs.Compiled.{AreLoads};
@@ -18,7 +18,7 @@ pub fn loads_of(
     sets: &[PlannedSet],
 ) -> Result<Vec<WriteLoad>, NoMemory>
     requires kept { AreCoded script.now.pictures kept.now.coded.items }
-    requires sendable { All (IsSendable script.now) sets.now }
+    requires sendable { All (IsOfItsEpoch script.now) sets.now }
     ensures loads { IfOk result (λ loads. AreLoads script.now sets.now loads.items) }
     ensures each { IfOk result (λ loads. All IsLoad loads.items) }
 {

@@ -1,6 +1,6 @@
 ghost use Rattle.std.specs.Prelude.{◌≡◌, ◌<◌, IfErr, IfOk, OnOk};
 ghost use Rattle.std.specs.Io.KnownBytes.{Appends, Keeps};
-ghost use Rattle.shown_stream.specs.Compiled.{IsCompiledFor};
+ghost use Rattle.shown_stream.specs.Compiled.{IsCompiledFor, compiling_for};
 ghost use Rattle.stream_syntax.specs.declared.wire.TheConstants.{NULL_PID};
 ghost use Rattle.sub_base.specs.Counts.{HasRisen};
 ghost use Rattle.sub_base.specs.Endpoints.{AppendsPrefix};
@@ -62,12 +62,13 @@ impl ScriptStream {
     ) -> Result<ScriptStream, SendFault>
         requires pid { pid < NULL_PID }
         requires profile { IsCompiledFor profile }
-        ensures sent { IfOk result (IsSentFor profile pid page script.now) }
+        ensures sent { IfOk result (IsSentFor (compiling_for profile pid page script.now)) }
 
         // A receiver that enters the packets anywhere shows the script from its entry set on; one
         // that loses packets shows it at every good tick; page memory holds the script; the coded
         // data buffer holds what comes, and every set is decoded by its time.
-        ensures shown { IfOk result (λ sent. IsShownRightly profile pid page script.now
+        ensures shown { IfOk result (λ sent. IsShownRightly
+            (compiling_for profile pid page script.now)
             sent.sets sent.loads sent.table (stream_bytes sent)) }
         ensures cause { IfErr result (IsSendCause profile script.now) }
     {

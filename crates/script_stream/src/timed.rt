@@ -1,6 +1,6 @@
 ghost use Rattle.std.specs.Prelude.{All, IfErr, IfOk};
 ghost use Rattle.page_epoch.specs.Plan.{IsPlan};
-ghost use Rattle.page_epoch.specs.Sendable.{IsSendable};
+ghost use Rattle.page_epoch.specs.Sendable.{IsOfItsEpoch};
 ghost use Rattle.set_coder.specs.KeptBlocks.{AreCoded};
 ghost use Rattle.shown_stream.specs.Compiled.{IsCompiledFor};
 ghost use Rattle.sub_base.specs.Profile.{profile_of};
@@ -28,7 +28,7 @@ pub struct Timed {
 /// The plan of a script for receivers of a profile, or the first set that it refuses.
 pub fn plan_of(alloc: Global, profile: ProfileName, script: &Script) -> Result<Plan, SendFault>
     ensures plan { IfOk result (λ plan. IsPlan script.now (profile_of profile) plan.sets) }
-    ensures sendable { IfOk result (λ plan. All (IsSendable script.now) plan.sets) }
+    ensures sendable { IfOk result (λ plan. All (IsOfItsEpoch script.now) plan.sets) }
     ensures cause { IfErr result (IsSendCause profile script.now) }
 {
     let receiver = Profile::of(profile);
@@ -51,7 +51,7 @@ impl Timed {
         requires profile { IsCompiledFor profile }
         requires blocks { AreCoded script.now.pictures blocks.now.coded.items }
         requires plan { IsPlan script.now (profile_of profile) plan.sets }
-        requires sendable { All (IsSendable script.now) plan.sets }
+        requires sendable { All (IsOfItsEpoch script.now) plan.sets }
         ensures timed { IfOk result (λ timed. IsTimed profile script.now
             timed.plan.sets timed.loads.items timed.schedule) }
         ensures cause { IfErr result (IsSendCause profile script.now) }

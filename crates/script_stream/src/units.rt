@@ -1,6 +1,6 @@
 ghost use Rattle.std.specs.Prelude.{◌≡◌, ℕ, List, All, length, map, IfOk};
 ghost use Rattle.std.specs.List.{concat};
-ghost use Rattle.page_epoch.specs.Sendable.{IsSendable};
+ghost use Rattle.page_epoch.specs.Sendable.{IsOfItsEpoch};
 ghost use Rattle.set_coder.specs.KeptBlocks.{AreCoded};
 ghost use Rattle.set_coder.specs.SetSegments.{AreSetPackets};
 ghost use Rattle.set_coder.specs.SetSizes.{AreUnitSizes, FitsPackets};
@@ -27,7 +27,7 @@ pub fn units_of(
     page: u16,
 ) -> Result<Vec<SetUnits>, NoMemory>
     requires kept { AreCoded script.now.pictures kept.now.coded.items }
-    requires sendable { All (IsSendable script.now) sets.now }
+    requires sendable { All (IsOfItsEpoch script.now) sets.now }
     requires fit { All (FitsPackets script.now) sets.now }
     ensures { IfOk result
         (λ written. (units : List (List (List ℕ)))
@@ -49,7 +49,7 @@ fn set_units(
     page: u16,
 ) -> Result<SetUnits, NoMemory>
     requires kept { AreCoded script.now.pictures kept.now.coded.items }
-    requires sendable { IsSendable script.now set.now }
+    requires sendable { IsOfItsEpoch script.now set.now }
     requires fits { FitsPackets script.now set.now }
     ensures { IfOk result (λ bytes. (packets : List (List ℕ)) × (bytes ≡ concat packets)
         × AreSetPackets script.now page set.now packets

@@ -4,7 +4,7 @@ use Rattle.std.specs.Prelude.{◌==◌, sum_by}
 use Rattle.std.proofs.lemmas.List.{length-append, length-take, get_or-drop, get_or-take, get_or_past, nil_from_length}
 use Rattle.std.proofs.lemmas.Bool.{cases_lt}
 use Rattle.std.proofs.lemmas.List.Sums.{sum_by-cons}
-use Rattle.stream_syntax.specs.Fields.{Field, number, reserved, HasFields, no_row, row_first, IsRow}
+use Rattle.stream_syntax.specs.Fields.{Field, number, reserved, HasFields, no_row, row_first, IsRowBits}
 use Rattle.stream_syntax.specs.PixelCodes.{bits, bits_of}
 use Rattle.stream_syntax.specs.Segments.{flag, width_of}
 use Rattle.pixel_codes.proofs.Bits.{length-bits}
@@ -29,7 +29,7 @@ AreBytes-take n bytes fits i =
 
 -- ---- sizes
 
-pub row_length : (field : Field) (row : List ℕ) → IsRow field row → length row ≡ width_of field
+pub row_length : (field : Field) (row : List ℕ) → IsRowBits field row → length row ≡ width_of field
 row_length (number width n) row is = ap length is ∙ length-bits width n
 row_length (reserved width) row is = is
 

@@ -31,9 +31,9 @@ abbrev pub tested : {Fault : Type 0} → List (Test Fault) → Result (Unit {0})
 tested tests = checked tests (tt {0})
 
 -- what a function returned, seen by view, is what reading gives
-abbrev pub Gives : {Seg Value Fault : Type 0} → (Seg → Value) → Result Seg Fault → Result Value Fault → Type 0
-Gives view (Ok seg) read = read ≡ Ok (view seg)
-Gives view (Err fault) read = read ≡ Err fault
+abbrev pub GivesReading : {Seg Value Fault : Type 0} → (Seg → Value) → Result Seg Fault → Result Value Fault → Type 0
+GivesReading view (Ok seg) read = read ≡ Ok (view seg)
+GivesReading view (Err fault) read = read ≡ Err fault
 
 abbrev pub state_of : ℕ → State
 state_of zero = Normal

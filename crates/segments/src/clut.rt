@@ -1,6 +1,6 @@
 ghost use Rattle.std.specs.Prelude.{◌≡◌, ◌≤◌, length};
 ghost use Rattle.segments.specs.Contents.{clut_value, first_entry, items_left, full_colour, short_colour};
-ghost use Rattle.segments.specs.Reading.{Gives, clut_at};
+ghost use Rattle.segments.specs.Reading.{GivesReading, clut_at};
 ghost use Rattle.stream_syntax.specs.SegmentTests.{are_whole, entry_size};
 
 use crate::fault::bad_length;
@@ -68,7 +68,7 @@ impl Iterator for ClutItems<'_> {
 
 /// Reads the body of a CLUT definition.
 pub(crate) fn clut_of(body: &[u8]) -> Result<ClutSeg<'_>, SegmentFault>
-    ensures { Gives clut_value result (clut_at body.now) }
+    ensures { GivesReading clut_value result (clut_at body.now) }
 {
     if body.len() < FIXED || !are_whole(&body[FIXED..]) {
         return Err(bad_length());

@@ -1,6 +1,6 @@
 ghost use Rattle.std.specs.Prelude.{◌≡◌, ◌≤◌, length};
 ghost use Rattle.segments.specs.Contents.{display_value};
-ghost use Rattle.segments.specs.Reading.{Gives, display_at, window_in};
+ghost use Rattle.segments.specs.Reading.{GivesReading, display_at, window_in};
 ghost use Rattle.stream_syntax.specs.SegmentTests.{has_window, is_window};
 
 use crate::fault::bad_length;
@@ -30,7 +30,7 @@ pub struct DisplaySeg {
 
 /// Reads the body of a display definition. Bytes may follow the definition.
 pub(crate) fn display_of(body: &[u8]) -> Result<DisplaySeg, SegmentFault>
-    ensures { Gives display_value result (display_at body.now) }
+    ensures { GivesReading display_value result (display_at body.now) }
 {
     if body.len() < FIXED {
         return Err(bad_length());

@@ -1,6 +1,6 @@
 ghost use Rattle.std.specs.Prelude.{◌≡◌, ◌+◌, ◌<◌, ◌≤◌, ◌^◌, IfErr, IfOk, OnOk, length};
 ghost use Rattle.segments.specs.Contents.{object_value};
-ghost use Rattle.segments.specs.Reading.{Gives, object_at};
+ghost use Rattle.segments.specs.Reading.{GivesReading, object_at};
 ghost use Rattle.stream_syntax.specs.SegmentTests.{AreBlocks, IsBlocksFault};
 
 use crate::fault::bad_length;
@@ -36,7 +36,7 @@ pub struct ObjectSeg<'a> {
 
 /// Reads what stands before the blocks, and cuts the blocks out.
 pub(crate) fn object_of(body: &[u8]) -> Result<ObjectSeg<'_>, SegmentFault>
-    ensures exact { Gives object_value result (object_at body.now) }
+    ensures exact { GivesReading object_value result (object_at body.now) }
     ensures room { IfOk result
         (λ object. 7 + length object.top.now + length object.bottom.now ≤ length body.now) }
     ensures fields { IfOk result

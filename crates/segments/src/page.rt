@@ -1,6 +1,6 @@
 ghost use Rattle.std.specs.Prelude.{◌≡◌, ◌<◌, length, slice_get, Some};
 ghost use Rattle.segments.specs.Contents.{page_value};
-ghost use Rattle.segments.specs.Reading.{Gives, page_at};
+ghost use Rattle.segments.specs.Reading.{GivesReading, page_at};
 
 use crate::fault::bad_length;
 use crate::word::{bits, read_word};
@@ -51,7 +51,7 @@ impl PageSeg<'_> {
 
 /// Reads the body of a page.
 pub(crate) fn page_of(body: &[u8]) -> Result<PageSeg<'_>, SegmentFault>
-    ensures { Gives page_value result (page_at body.now) }
+    ensures { GivesReading page_value result (page_at body.now) }
 {
     if body.len() % ENTRY != FIXED {
         return Err(bad_length());

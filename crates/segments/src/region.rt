@@ -1,7 +1,7 @@
 ghost use Rattle.std.specs.Prelude.{◌≡◌, ◌+◌, ◌<◌, ◌^◌, ◌≤◌, drop, length, slice_get, OnOk, Some};
 ghost use Rattle.std.specs.Result.{result_and};
 ghost use Rattle.segments.specs.Contents.{region_value};
-ghost use Rattle.segments.specs.Reading.{Gives, tested, depth_at, region_head_at, region_at};
+ghost use Rattle.segments.specs.Reading.{GivesReading, tested, depth_at, region_head_at, region_at};
 ghost use Rattle.stream_syntax.specs.SegmentTests.{listing_tests};
 
 use crate::fault::bad_length;
@@ -72,7 +72,7 @@ impl RegionSeg<'_> {
 #[tactic(auto, unfolding(crate::specs::Reading::region_at))]
 pub(crate) fn region_of(body: &[u8]) -> Result<RegionSeg<'_>, SegmentFault>
     requires { length body.now < 65536 }
-    ensures { Gives region_value result (region_at body.now) }
+    ensures { GivesReading region_value result (region_at body.now) }
 {
     let head = head_of(body)?;
     let listings = &body[FIXED..];

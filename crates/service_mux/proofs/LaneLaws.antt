@@ -10,7 +10,7 @@ use Rattle.sub_base.specs.Counts.{counted}
 use Rattle.std.proofs.lemmas.Option.{get_or_from_slice_get, slice_get_within}
 use Rattle.sub_base.specs.Endpoints.{Supplied}
 use Rattle.packet_source.specs.InHand.{InHand, read_count, rest_of, whole_packets}
-use Rattle.packet_source.specs.Packets.{Gave, Stands}
+use Rattle.packet_source.specs.Packets.{Gave, HasGivenInHand}
 use Rattle.packet_source.specs.declared.limits.TheConstants.{STREAM_LIMIT}
 use Rattle.packet_source.proofs.GaveLaws.{AreLong, Gave-more, Gave-up_to, Gave-whole_packets, bytes_of, length-whole_packets, whole_packets-rest_of, whole_packets_long}
 use Rattle.service_mux.specs.Private.Lanes.{HasEnded, HasPassed, IsLaneStop, IsSound, Passes, PassesReached, as_list}
@@ -39,7 +39,7 @@ passed_one old new same next ended there before now packets packet past is =
     ∙ ap (λ (hand : InHand). past.earlier ++ take new.next (whole_packets hand.bytes)) (sym same) in
     record {
       earlier = past.earlier;
-      stands = subst (λ (hand : InHand). Stands before now hand past.earlier) (sym same) past.stands;
+      stands = subst (λ (hand : InHand). HasGivenInHand before now hand past.earlier) (sym same) past.stands;
       passed = all;
       ended =
           λ is_ended. subst (λ (hand : InHand). HasEnded now hand) (sym same) (past.ended (sym ended ∙ is_ended));

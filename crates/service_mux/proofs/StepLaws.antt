@@ -5,7 +5,7 @@ use Rattle.std.specs.Option.{option_or}
 use Rattle.sub_base.specs.Lists.{first_given}
 use Rattle.stream_syntax.specs.TransportPackets.{pid_of, has_payload, has_start_flag, counter_of, payload_of}
 use Rattle.stream_syntax.specs.Units.{succession}
-use Rattle.service_mux.specs.Reading.{GoesOn, Stands, TableReading, named_in}
+use Rattle.service_mux.specs.Reading.{ReadsOn, IsReadingOf, TableReading, named_in}
 use Rattle.service_mux.specs.Sections.{Ended, by_counter, counts, ended_with, following, grown, hand_behind, is_broken, last_counter, sections_at, started}
 use Rattle.service_mux.specs.Private.Following.{follows}
 use Rattle.service_mux.specs.Private.Kinds.{IsPayloadOf}
@@ -96,7 +96,7 @@ counter_more : (b : Bool) (packet : List ℕ) (o : Option (List ℕ))
 counter_more true packet o = refl
 counter_more false packet o = refl
 
-hand_more : (old : TableReading) (packet : List ℕ) (before : List (List ℕ)) → Stands old before
+hand_more : (old : TableReading) (packet : List ℕ) (before : List (List ℕ)) → IsReadingOf old before
     → (ended_with old.pid old.last old.hand packet).hand ≡ hand_behind old.pid (packet ∷ before)
 unfolding hand_behind
 hand_more old packet before stands =
@@ -106,7 +106,7 @@ hand_more old packet before stands =
 
 -- a reader that steps on at a packet goes on over it
 pub steps_goes_on : (old new : TableReading) (answer : Option ℕ) (packet : List ℕ)
-    → StepsOn old new answer packet → GoesOn old new packet
+    → StepsOn old new answer packet → ReadsOn old new packet
 steps_goes_on old new answer packet steps = record {
   pid = steps.ends.pid;
   sought = steps.ends.sought;
@@ -123,7 +123,7 @@ steps_goes_on old new answer packet steps = record {
 
 -- and answers what the sections name that end in it
 pub steps_named : (old new : TableReading) (answer : Option ℕ) (packet : List ℕ) → StepsOn old new answer packet
-    → (before : List (List ℕ)) → Stands old before
+    → (before : List (List ℕ)) → IsReadingOf old before
     → answer ≡ first_given (named_in old.sought) (sections_at old.pid before packet)
 steps_named old new answer packet steps before stands =
     steps.ends.named

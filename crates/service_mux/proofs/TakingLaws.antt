@@ -8,7 +8,7 @@ use Rattle.command_text.specs.Putting.{Buffered, PutsOut}
 use Rattle.command_text.proofs.PutLaws.{PutsOut-nothing}
 use Rattle.packet_walk.specs.Told.{TellsOne}
 use Rattle.psi_tables.specs.Services.{pmt_in, pid_in}
-use Rattle.service_mux.specs.Reading.{GoesOn, Stands, TableReading, named_in}
+use Rattle.service_mux.specs.Reading.{ReadsOn, IsReadingOf, TableReading, named_in}
 use Rattle.service_mux.specs.Sections.{sections_at}
 use Rattle.service_mux.specs.Taken.{Named, by_sections, first_in, of_pid, subtitles_of, taken_by}
 use Rattle.service_mux.specs.Private.Taking.{IsBeforeTable, IsBehindMap, IsBehindTable, IsTaking, StandsIn, Takes, TakesIn, has_found, latest_first}
@@ -20,7 +20,7 @@ use Rattle.service_mux.proofs.TakenLaws.{latest_more, named_at, named_before, no
 
 -- what a reader answers at a packet, whatever was fed before
 abbrev pub Answers : TableReading → List ℕ → Option ℕ → Type 0
-Answers reader packet answer = (before : List (List ℕ)) → Stands reader before
+Answers reader packet answer = (before : List (List ℕ)) → IsReadingOf reader before
     → answer ≡ first_given (named_in reader.sought) (sections_at reader.pid before packet)
 
 -- ---- before a PAT has listed the service
@@ -35,7 +35,7 @@ at_table service reader packet answer packets bytes answers is =
 
 pub table_found : (service pid : ℕ) (reader restarted : TableReading) (packet : List ℕ)
     → Answers reader packet (Some pid) → restarted.pid ≡ pid → restarted.sought ≡ sought.Subtitles service
-    → Stands restarted []
+    → IsReadingOf restarted []
     → (packets : List (List ℕ)) (bytes : List ℕ) → IsBeforeTable service reader packets bytes
     → IsBehindTable service restarted (packets ++ packet ∷ []) bytes
 table_found service pid reader restarted packet answers pid_is sought_is stands packets bytes is = record {
@@ -50,14 +50,14 @@ table_found service pid reader restarted packet answers pid_is sought_is stands 
 }
 
 pub table_missed : (service : ℕ) (reader fed : TableReading) (packet : List ℕ) → Answers reader packet None
-    → GoesOn reader fed packet
+    → ReadsOn reader fed packet
     → (packets : List (List ℕ)) (bytes : List ℕ) → IsBeforeTable service reader packets bytes
     → IsBeforeTable service fed (packets ++ packet ∷ []) bytes
 table_missed service reader fed packet answers goes packets bytes is = record {
   pid = goes.pid ∙ is.pid;
   sought = goes.sought ∙ is.sought;
   stands =
-      subst (λ (l : List (List ℕ)). Stands fed l) (sym (latest_more [] packets packet))
+      subst (λ (l : List (List ℕ)). IsReadingOf fed l) (sym (latest_more [] packets packet))
       (goes.stands (latest_first [] packets) is.stands);
   none = at_table service reader packet None packets bytes answers is;
   nothing = is.nothing;
@@ -85,7 +85,7 @@ map_found service pid reader packet answers packets bytes is = record {
 }
 
 pub map_missed : (service : ℕ) (reader fed : TableReading) (packet : List ℕ) → Answers reader packet None
-    → GoesOn reader fed packet
+    → ReadsOn reader fed packet
     → (packets : List (List ℕ)) (bytes : List ℕ) → IsBehindTable service reader packets bytes
     → IsBehindTable service fed (packets ++ packet ∷ []) bytes
 map_missed service reader fed packet answers goes packets bytes is = record {
@@ -95,7 +95,7 @@ map_missed service reader fed packet answers goes packets bytes is = record {
       ∙ ap (λ (p : ℕ). Some (p, is.behind ++ packet ∷ [])) (sym goes.pid);
   sought = goes.sought ∙ is.sought;
   stands =
-      subst (λ (l : List (List ℕ)). Stands fed l) (sym (latest_more [] is.behind packet))
+      subst (λ (l : List (List ℕ)). IsReadingOf fed l) (sym (latest_more [] is.behind packet))
       (goes.stands (latest_first [] is.behind) is.stands);
   none =
       ap (λ (p : ℕ). first_in (pid_in service) p (is.behind ++ packet ∷ [])) goes.pid

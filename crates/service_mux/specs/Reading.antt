@@ -19,12 +19,12 @@ pub record TableReading : Type 0 where
   pub hand : Option (List ℕ)
 
 -- each thing that the reader keeps is what the definition gives for all packets so far, the latest first
-pub record Stands (reader : TableReading) (before : List (List ℕ)) : Type 0 where
+pub record IsReadingOf (reader : TableReading) (before : List (List ℕ)) : Type 0 where
   pub last : reader.last ≡ last_counter reader.pid before
   pub hand : reader.hand ≡ hand_behind reader.pid before
 
 -- the new value stands for the packets that the old one stands for and this one behind them, whichever they are
-pub record GoesOn (old new : TableReading) (packet : List ℕ) : Type 0 where
+pub record ReadsOn (old new : TableReading) (packet : List ℕ) : Type 0 where
   pub pid : new.pid ≡ old.pid
   pub sought : new.sought ≡ old.sought
-  pub stands : (before : List (List ℕ)) → Stands old before → Stands new (packet ∷ before)
+  pub stands : (before : List (List ℕ)) → IsReadingOf old before → IsReadingOf new (packet ∷ before)

@@ -50,7 +50,7 @@ impl TableReader {
     ghost use Rattle.sub_base.specs.Lists.{first_given};
     ghost use Rattle.stream_syntax.specs.Units.{Next, succession};
     ghost use Rattle.stream_syntax.specs.declared.wire.TheConstants.{PAYLOAD_LENGTH};
-    ghost use Rattle.service_mux.specs.Reading.{GoesOn, Stands, named_in};
+    ghost use Rattle.service_mux.specs.Reading.{ReadsOn, IsReadingOf, named_in};
     ghost use Rattle.service_mux.specs.Sections.{by_counter, following, grown, sections_at, started, with_payload};
     ghost use Rattle.service_mux.specs.Private.Steps.{Ends, StepsOn};
 
@@ -58,7 +58,7 @@ impl TableReader {
     pub fn make(alloc: Global, pid: u16, sought: Sought) -> Result<TableReader, NoMemory>
         ensures pid { IfOk result (λ reader. reader.pid ≡ pid) }
         ensures sought { IfOk result (λ reader. reader.sought ≡ sought) }
-        ensures stands { IfOk result (λ reader. Stands reader []) }
+        ensures stands { IfOk result (λ reader. IsReadingOf reader []) }
     {
         Ok(TableReader {
             pid,
@@ -73,7 +73,7 @@ impl TableReader {
     pub fn restart(&mut self, pid: u16, sought: Sought)
         ensures pid { self.new.pid ≡ pid }
         ensures sought { self.new.sought ≡ sought }
-        ensures stands { Stands self.new [] }
+        ensures stands { IsReadingOf self.new [] }
     {
         self.pid = pid;
         self.sought = sought;
@@ -84,8 +84,8 @@ impl TableReader {
     /// Takes the next packet. The answer is the PID that the first section names that ends in it
     /// and names one.
     pub fn feed(&mut self, packet: &[u8; 188]) -> Option<u16>
-        ensures goes_on { GoesOn self.old self.new packet.now }
-        ensures named { (before : List (List ℕ)) → Stands self.old before
+        ensures goes_on { ReadsOn self.old self.new packet.now }
+        ensures named { (before : List (List ℕ)) → IsReadingOf self.old before
             → result ≡ first_given (named_in self.old.sought)
             (sections_at self.old.pid before packet.now) }
     {

@@ -12,8 +12,8 @@ use Rattle.set_coder.specs.declared.coded_picture.CodedPicture.{CodedPicture}
 use Rattle.set_coder.specs.declared.coded_picture.KeptBlocks.{KeptBlocks}
 use Rattle.set_coder.specs.declared.coded_picture.Slots.{Slots}
 use Rattle.set_coder.specs.declared.grown_blocks.BlocksBefore.{BlocksBefore}
-use Rattle.set_coder.specs.KeptBlocks.{AreCoded, IsSmall, AreLedTo, place_in, place_of}
-use Rattle.set_coder.specs.GrownBlocks.{AreBlocksOf, CanGoBack}
+use Rattle.set_coder.specs.KeptBlocks.{AreCoded, FitsLargestBuffer, AreLedTo, place_in, place_of}
+use Rattle.set_coder.specs.GrownBlocks.{AreBlocksOf, IsGrownFrom}
 use Rattle.set_coder.specs.Private.Keeping.{HasGrown, StaysInFront}
 
 -- ---- what stands in front
@@ -73,7 +73,7 @@ led_in_front kept more slots led = λ k d lt.
 -- what was kept can be gone back to from what has grown out of it
 pub can_go_back : (pictures : List Picture) (old new : KeptBlocks) (before : BlocksBefore) → AreBlocksOf pictures old
     → HasGrown old new → before.pictures ≡ length old.slots.items → before.blocks ≡ length old.coded.items
-    → CanGoBack pictures new before
+    → IsGrownFrom pictures new before
 can_go_back pictures old new before blocks grown slots coded = record {
   was = old;
   blocks = blocks;
@@ -89,7 +89,7 @@ can_go_back pictures old new before blocks grown slots coded = record {
 
 -- and is there again where it was gone back to
 pub gone_back : (pictures : List Picture) (now new : KeptBlocks) (before : BlocksBefore)
-    → CanGoBack pictures now before → new.slots.items ≡ take before.pictures now.slots.items
+    → IsGrownFrom pictures now before → new.slots.items ≡ take before.pictures now.slots.items
     → new.coded.items ≡ take before.blocks now.coded.items → AreBlocksOf pictures new
 gone_back pictures now new before can slots coded = record {
   right = subst (AreCoded pictures) (sym same) can.blocks.right;
@@ -97,7 +97,7 @@ gone_back pictures now new before can slots coded = record {
   led =
       subst (λ (ss : List Slots). AreLedTo ss new.coded.items) (sym slots)
       (subst (AreLedTo front) (sym same) led);
-  small = subst (All IsSmall) (sym same) can.blocks.small;
+  small = subst (All FitsLargestBuffer) (sym same) can.blocks.small;
 }
   where
     front : List Slots

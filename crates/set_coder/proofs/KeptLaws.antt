@@ -13,7 +13,7 @@ use Rattle.cue_list.specs.declared.epoch.Epoch.{Epoch}
 use Rattle.cue_list.specs.declared.epoch.Region.{Region}
 use Rattle.page_epoch.specs.Sendable.{find_region}
 use Rattle.set_coder.specs.declared.coded_picture.CodedPicture.{CodedPicture}
-use Rattle.set_coder.specs.KeptBlocks.{IsCoded, IsSmall, IsOf, IsKept, IsCueKept}
+use Rattle.set_coder.specs.KeptBlocks.{IsCoded, FitsLargestBuffer, IsOf, IsPictureKept, IsCueKept}
 use Rattle.set_coder.specs.Private.Keeping.{StaysInFront}
 
 -- ---- each is right
@@ -43,10 +43,11 @@ one_more pictures picture number region coded kept more found n r right all e =
 
 -- and no buffer is too small for any
 pub one_more_small : (kept : List CodedPicture) (coded : CodedPicture) (more : List CodedPicture)
-    → more ≡ kept ++ coded ∷ [] → IsSmall coded → All IsSmall kept → All IsSmall more
+    → more ≡ kept ++ coded ∷ [] → FitsLargestBuffer coded → All FitsLargestBuffer kept → All FitsLargestBuffer more
 one_more_small kept coded more e small all =
-    subst (All IsSmall) (sym e)
-    (All-append IsSmall kept (coded ∷ []) all (All-cons IsSmall coded [] small (All-nil IsSmall)))
+    subst (All FitsLargestBuffer) (sym e)
+    (All-append FitsLargestBuffer kept (coded ∷ []) all
+    (All-cons FitsLargestBuffer coded [] small (All-nil FitsLargestBuffer)))
 
 -- ---- what is kept stays
 
@@ -82,11 +83,11 @@ front_stays kept more front = λ number region any.
 
 -- the picture of a cue is kept for the region that is found
 pub cue_kept : (pictures : List Picture) (coded : List CodedPicture) (epoch : Epoch) (cue : Cue) (region : Region)
-    → find_region epoch cue.region ≡ Some region → IsKept pictures coded cue.picture region.depth
+    → find_region epoch cue.region ≡ Some region → IsPictureKept pictures coded cue.picture region.depth
     → IsCueKept pictures coded epoch cue
 cue_kept pictures coded epoch cue region found kept = λ other is.
     let same : region ≡ other = cc in
-    subst (λ (r : Region). IsKept pictures coded cue.picture r.depth) same kept
+    subst (λ (r : Region). IsPictureKept pictures coded cue.picture r.depth) same kept
 
 -- and stays so
 cue_stays : (pictures : List Picture) (kept more : List CodedPicture) (epoch : Epoch) (cue : Cue)

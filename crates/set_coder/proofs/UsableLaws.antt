@@ -12,7 +12,7 @@ use Rattle.sub_base.specs.Depth.{code_count}
 use Rattle.sub_base.specs.declared.depth.Depth.{Depth}
 use Rattle.sub_base.specs.declared.depth.Depth.TheVariants.{Two, Four, Eight}
 use Rattle.stream_syntax.specs.PixelBlocks.{IsNoDeeper}
-use Rattle.cue_list.specs.Sound.{IsSound, IsEpoch, IsCue}
+use Rattle.cue_list.specs.Sound.{IsSoundScript, IsEpoch, IsCue}
 use Rattle.cue_list.specs.Authored.{picture_at_place}
 use Rattle.page_epoch.specs.Sendable.{HasRegion}
 use Rattle.cue_list.specs.declared.epoch.Cue.{Cue}
@@ -77,7 +77,7 @@ drawn_cue origin start pictures epoch cue regions r =
     }
 
 usable_from : (origin width height refresh place : ℕ) (epochs : List Epoch) (pictures : List Picture)
-    (epoch : Epoch) → slice_get epochs place ≡ Some epoch → IsSound origin width height refresh epochs pictures
+    (epoch : Epoch) → slice_get epochs place ≡ Some epoch → IsSoundScript origin width height refresh epochs pictures
     → IsUsable epoch × AreDrawable pictures epoch
 usable_from origin width height refresh place epochs pictures epoch found s =
     let within = slice_get_within epochs place epoch found in
@@ -116,7 +116,7 @@ usable_from origin width height refresh place epochs pictures epoch found s =
 
 -- the epochs of a script are usable
 pub usable : (origin width height refresh place : ℕ) (epochs : List Epoch) (pictures : List Picture)
-    (epoch : Epoch) → ∥ IsSound origin width height refresh epochs pictures ∥₁
+    (epoch : Epoch) → ∥ IsSoundScript origin width height refresh epochs pictures ∥₁
     → slice_get epochs place ≡ Some epoch → IsUsable epoch × AreDrawable pictures epoch
 usable origin width height refresh place epochs pictures epoch sound found =
     ∥∥₁_elim sound (usable_prop pictures epoch)

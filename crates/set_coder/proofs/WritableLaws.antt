@@ -21,7 +21,7 @@ use Rattle.stream_syntax.specs.declared.region.RegionHead.{RegionHead}
 use Rattle.segments.specs.Writing.{body_bytes}
 use Rattle.segments.proofs.Sizes.{page_entries_size, listings_size, clut_entries_size}
 use Rattle.segments.proofs.Spellings.{size_is, spelled_as}
-use Rattle.cue_list.specs.Sound.{IsSound}
+use Rattle.cue_list.specs.Sound.{IsSoundScript}
 use Rattle.cue_list.specs.declared.epoch.Epoch.{Epoch}
 use Rattle.cue_list.specs.declared.epoch.Region.{Region}
 use Rattle.cue_list.specs.declared.script.Script.{Script}
@@ -38,7 +38,7 @@ use Rattle.set_coder.proofs.UsableLaws.{usable_region}
 
 -- the numbers of a script that segments have
 pub script_numbers : (origin width height refresh : ℕ) (epochs : List Epoch) (pictures : List Picture)
-    → ∥ IsSound origin width height refresh epochs pictures ∥₁ → (1 ≤ width) × (width ≤ 1920)
+    → ∥ IsSoundScript origin width height refresh epochs pictures ∥₁ → (1 ≤ width) × (width ≤ 1920)
     × (1 ≤ height) × (height ≤ 1080) × (refresh ≤ 5400000)
 script_numbers origin width height refresh epochs pictures sound =
     ∥∥₁_elim sound (hlevel props)
@@ -350,7 +350,7 @@ clut_writable epoch page sent entries fits_page u s same =
 -- ---- all segments of a set
 
 one_display : (script : Script) (page : ℕ) → page < 2 ^ 16
-    → ∥ IsSound script.origin script.width script.height script.refresh script.epochs script.pictures ∥₁
+    → ∥ IsSoundScript script.origin script.width script.height script.refresh script.epochs script.pictures ∥₁
     → All (IsWritable page)
     (of_display (record { version = 0; width = script.width; height = script.height; window = None }) ∷ [])
 one_display script page fits_page sound =
@@ -370,7 +370,7 @@ one_display script page fits_page sound =
     fits (omega arith) right tt) (λ k d h. absurd (omega arith))
 
 display_writable : (script : Script) (page : ℕ) (state : State) → page < 2 ^ 16
-    → ∥ IsSound script.origin script.width script.height script.refresh script.epochs script.pictures ∥₁
+    → ∥ IsSoundScript script.origin script.width script.height script.refresh script.epochs script.pictures ∥₁
     → All (IsWritable page) (display_segments script state)
 display_writable script page Normal fits_page sound = λ k d h. absurd (omega arith)
 display_writable script page Acquisition fits_page sound = one_display script page fits_page sound
@@ -395,7 +395,7 @@ cluts_writable epoch page (sent ∷ cluts) fits_page u each =
     (cluts_writable epoch page cluts fits_page u (All-tail (IsSendableClut epoch) sent cluts each))
 
 pub leading_writable : (script : Script) (epoch : Epoch) (page : ℕ) (set : PlannedSet) → page < 2 ^ 16
-    → ∥ IsSound script.origin script.width script.height script.refresh script.epochs script.pictures ∥₁
+    → ∥ IsSoundScript script.origin script.width script.height script.refresh script.epochs script.pictures ∥₁
     → IsUsable epoch → IsSendableIn epoch set
     → All (IsWritable page) (leading_segments script epoch set)
 leading_writable script epoch page set fits_page sound u s =

@@ -4,7 +4,7 @@ use Rattle.sub_base.specs.Picture.{Picture}
 use Rattle.set_coder.specs.declared.coded_picture.CodedPicture.{CodedPicture}
 use Rattle.set_coder.specs.declared.coded_picture.KeptBlocks.{KeptBlocks}
 use Rattle.set_coder.specs.declared.grown_blocks.BlocksBefore.{BlocksBefore}
-use Rattle.set_coder.specs.KeptBlocks.{AreCoded, AreLedTo, IsSmall}
+use Rattle.set_coder.specs.KeptBlocks.{AreCoded, AreLedTo, FitsLargestBuffer}
 
 -- blocks of these pictures are kept: each is right for the picture of its number, each picture has its slots, these
 -- lead to what is kept of it, and no buffer is too small for what is kept
@@ -12,11 +12,11 @@ pub record AreBlocksOf (pictures : List Picture) (kept : KeptBlocks) : Type 0 wh
   pub right : AreCoded pictures kept.coded.items
   pub each : length kept.slots.items ≡ length pictures
   pub led : AreLedTo kept.slots.items kept.coded.items
-  pub small : All IsSmall kept.coded.items
+  pub small : All FitsLargestBuffer kept.coded.items
 
 -- what was kept for these pictures is the front of what is kept now, with slots that lead to it still; the mark counts
 -- these pictures and the blocks that were kept for them
-pub record CanGoBack (pictures : List Picture) (now : KeptBlocks) (before : BlocksBefore) : Type 0 where
+pub record IsGrownFrom (pictures : List Picture) (now : KeptBlocks) (before : BlocksBefore) : Type 0 where
   pub was : KeptBlocks
   pub blocks : AreBlocksOf pictures was
   pub more : List CodedPicture

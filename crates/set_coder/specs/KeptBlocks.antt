@@ -42,16 +42,16 @@ pub record CanBeKept (picture : Picture) (region : Depth) : Type 0 where
   pub fits : top + bottom ≤ MOST_BYTES
 
 -- the blocks fit into the largest coded data buffer
-abbrev pub IsSmall : CodedPicture → Type 0
-IsSmall coded = coded.lengths.top + coded.lengths.bottom ≤ MOST_BYTES
+abbrev pub FitsLargestBuffer : CodedPicture → Type 0
+FitsLargestBuffer coded = coded.lengths.top + coded.lengths.bottom ≤ MOST_BYTES
 
 -- the blocks are those of the picture of that number for a region of that depth
 abbrev pub IsOf : ℕ → Depth → CodedPicture → Type 0
 IsOf number region coded = (coded.number ≡ number) × (coded.region ≡ region)
 
 -- the picture of that number, where there is one and it can be kept, is kept for a region of that depth
-abbrev pub IsKept : List Picture → List CodedPicture → ℕ → Depth → Type 0
-IsKept pictures coded number region =
+abbrev pub IsPictureKept : List Picture → List CodedPicture → ℕ → Depth → Type 0
+IsPictureKept pictures coded number region =
     (picture : Picture) → slice_get pictures number ≡ Some picture → CanBeKept picture region
     → Any (IsOf number region) coded
 
@@ -59,7 +59,7 @@ IsKept pictures coded number region =
 abbrev pub IsCueKept : List Picture → List CodedPicture → Epoch → Cue → Type 0
 IsCueKept pictures coded epoch cue =
     (region : Region) → find_region epoch cue.region ≡ Some region
-    → IsKept pictures coded cue.picture region.depth
+    → IsPictureKept pictures coded cue.picture region.depth
 
 -- for each cue of each epoch, the picture that it shows is kept
 abbrev pub AreKept : Script → List CodedPicture → Type 0

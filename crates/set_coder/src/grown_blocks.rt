@@ -1,6 +1,6 @@
 ghost use Rattle.std.specs.Prelude.{◌≡◌, ◌++◌, [], List, length, take, IfOk, OnErr, OnOk};
 ghost use Rattle.sub_base.specs.Picture.{Picture};
-ghost use Rattle.set_coder.specs.GrownBlocks.{AreBlocksOf, CanGoBack};
+ghost use Rattle.set_coder.specs.GrownBlocks.{AreBlocksOf, IsGrownFrom};
 ghost use Rattle.set_coder.specs.KeptBlocks.{AreKept};
 ghost use Rattle.set_coder.specs.Private.Keeping.{HasGrown, StaysInFront};
 
@@ -40,7 +40,7 @@ impl KeptBlocks {
         ensures kept { OnOk result (AreKept script.now self.new.coded.items) }
         ensures back { IfOk result (λ before. (pictures more : List Picture)
             → AreBlocksOf pictures self.old → script.now.pictures ≡ pictures ++ more
-            → CanGoBack pictures self.new before) }
+            → IsGrownFrom pictures self.new before) }
         ensures front { IfOk result (λ before.
             take before.blocks self.new.coded.items ≡ self.old.coded.items) }
         ensures same { OnErr result ((pictures : List Picture)
@@ -59,7 +59,7 @@ impl KeptBlocks {
 
     /// Goes back to what was kept before. Takes no memory.
     pub fn go_back(&mut self, before: BlocksBefore)
-        ensures { (pictures : List Picture) → CanGoBack pictures self.old before
+        ensures { (pictures : List Picture) → IsGrownFrom pictures self.old before
             → AreBlocksOf pictures self.new }
     {
         self.cut(before);

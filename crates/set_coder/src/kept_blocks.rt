@@ -1,7 +1,7 @@
 ghost use Rattle.std.specs.Prelude.{◌≡◌, ℕ, ◌+◌, ◌*◌, ◌<◌, ◌≤◌, ◌++◌, [], List, length, slice_get, slice_index_or, IfOk, IfSome, IsSome, OnOk, IsTrue, ◌↔◌, All, Any, Contains};
 ghost use Rattle.stream_syntax.specs.PixelBlocks.{IsNoDeeper};
 ghost use Rattle.stream_syntax.specs.FieldBlocks.{AreFieldBlocks, AreFieldSizes, DrawsPicture};
-ghost use Rattle.set_coder.specs.KeptBlocks.{IsCoded, AreCoded, CanBeKept, IsSmall, IsOf, IsKept, IsCueKept, AreKept, place_in, place_of, AreLedTo};
+ghost use Rattle.set_coder.specs.KeptBlocks.{IsCoded, AreCoded, CanBeKept, FitsLargestBuffer, IsOf, IsPictureKept, IsCueKept, AreKept, place_in, place_of, AreLedTo};
 ghost use Rattle.set_coder.specs.GrownBlocks.{AreBlocksOf};
 ghost use Rattle.set_coder.specs.Private.Keeping.{StaysInFront, with_place, FitsBuffer};
 
@@ -26,7 +26,7 @@ impl KeptBlocks {
         ensures right { IfOk result (λ kept. AreCoded script.now.pictures kept.coded.items) }
         ensures kept { IfOk result (λ kept. AreKept script.now kept.coded.items) }
         ensures led { IfOk result (λ kept. AreLedTo kept.slots.items kept.coded.items) }
-        ensures small { IfOk result (λ kept. All IsSmall kept.coded.items) }
+        ensures small { IfOk result (λ kept. All FitsLargestBuffer kept.coded.items) }
     {
         let mut kept = KeptBlocks::none(alloc);
         kept.grow(script)?;
@@ -68,7 +68,7 @@ impl KeptBlocks {
     fn keep(&mut self, pictures: &[Indexed], number: u32, region: Depth) -> Result<(), NoMemory>
         requires { AreBlocksOf pictures.now self.old }
         ensures blocks { AreBlocksOf pictures.now self.new }
-        ensures kept { OnOk result (IsKept pictures.now self.new.coded.items number region) }
+        ensures kept { OnOk result (IsPictureKept pictures.now self.new.coded.items number region) }
         ensures front { StaysInFront self.old.coded.items self.new.coded.items }
     {
         let place = number as usize;
@@ -200,7 +200,7 @@ fn code(
     requires shallow { IsNoDeeper picture.now.depth region }
     requires fits { FitsBuffer picture.now region }
     ensures coded { IfOk result (IsCoded picture.now region) }
-    ensures small { IfOk result IsSmall }
+    ensures small { IfOk result FitsLargestBuffer }
     ensures number { IfOk result (λ coded. coded.number ≡ number) }
     ensures region { IfOk result (λ coded. coded.region ≡ region) }
 {

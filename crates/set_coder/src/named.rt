@@ -1,7 +1,7 @@
 ghost use Rattle.std.specs.Prelude.{◌≡◌, Some, slice_get};
 ghost use Rattle.page_epoch.specs.Live.{cue_at};
 ghost use Rattle.page_epoch.specs.SentCluts.{row_at};
-ghost use Rattle.page_epoch.specs.Sendable.{find_region, HasRegion, HasCue, HasColour, IsSendable, IsSendableIn};
+ghost use Rattle.page_epoch.specs.Sendable.{find_region, HasRegion, HasCue, HasColour, IsOfItsEpoch, IsSendableIn};
 ghost use Rattle.set_coder.specs.SetSegments.{epoch_region};
 ghost use Rattle.set_coder.specs.Usable.{IsUsable, AreDrawable};
 
@@ -10,7 +10,7 @@ use page_epoch::PlannedSet;
 
 /// The epoch of a set.
 pub fn epoch_of<'a>(script: &'a Script, set: &PlannedSet) -> &'a Epoch
-    requires { IsSendable script.now set.now }
+    requires { IsOfItsEpoch script.now set.now }
     ensures found { slice_get script.now.epochs set.now.epoch ≡ Some result.now }
     ensures usable { IsUsable result.now }
     ensures drawable { AreDrawable script.now.pictures result.now }

@@ -1,7 +1,7 @@
 ghost use Rattle.std.specs.Prelude.{◌≡◌, ℕ, ◌≤◌, [], List, length, IfSome, IfNone, option_to_list};
 ghost use Rattle.cue_list.specs.declared.limits.TheConstants.{MOST_COLOURS, MOST_CUES};
 ghost use Rattle.pes_packets.specs.Units.{IsSegmentLength};
-ghost use Rattle.page_epoch.specs.Sendable.{HasCue, IsSendable};
+ghost use Rattle.page_epoch.specs.Sendable.{HasCue, IsOfItsEpoch};
 ghost use Rattle.set_coder.specs.KeptBlocks.{AreCoded};
 ghost use Rattle.set_coder.specs.SetSizes.{display_sizes, region_size, clut_size, IsObjectSize, AreSegmentSizes};
 ghost use Rattle.set_coder.specs.Private.SizesLeft.{AreSizesLeft, IsMeasurable, IsNextSize, segments_left};
@@ -37,7 +37,7 @@ impl<'a> SegmentSizes<'a> {
         set: &'a PlannedSet,
     ) -> SegmentSizes<'a>
         requires kept { AreCoded script.now.pictures kept.now.coded.now }
-        requires set { IsSendable script.now set.now }
+        requires set { IsOfItsEpoch script.now set.now }
         ensures measurable { IsMeasurable result }
         ensures all { (sizes : List ℕ) → AreSizesLeft result sizes
             → AreSegmentSizes script.now set.now sizes }

@@ -2,7 +2,7 @@ ghost use Rattle.std.specs.Prelude.{◌≡◌, ℕ, ◌+◌, ◌^◌, ◌<◌, �
 ghost use Rattle.std.specs.List.{concat, flat_map};
 ghost use Rattle.pixel_codes.specs.Lists.{Extends};
 ghost use Rattle.stream_syntax.specs.Segments.{SegmentValue, spelled};
-ghost use Rattle.page_epoch.specs.Sendable.{IsSendable};
+ghost use Rattle.page_epoch.specs.Sendable.{IsOfItsEpoch};
 ghost use Rattle.set_coder.specs.KeptBlocks.{AreCoded};
 ghost use Rattle.set_coder.specs.SetSegments.{AreSetSegments};
 ghost use Rattle.set_coder.specs.SetSizes.{FitsPackets, IsSetAppended};
@@ -30,7 +30,7 @@ pub fn write_set(
     page: u16,
     out: &mut Vec<u8>,
 ) -> Result<(), NoMemory>
-    requires sendable { IsSendable script.now set.now }
+    requires sendable { IsOfItsEpoch script.now set.now }
     requires fits { FitsPackets script.now set.now }
     ensures packets { OnOk result
         (IsSetAppended script.now page set.now out.old.items out.new.items) }
@@ -49,7 +49,7 @@ impl KeptBlocks {
         out: &mut Vec<u8>,
     ) -> Result<(), NoMemory>
         requires blocks { AreCoded script.now.pictures self.now.coded.items }
-        requires sendable { IsSendable script.now set.now }
+        requires sendable { IsOfItsEpoch script.now set.now }
         requires fits { FitsPackets script.now set.now }
         ensures packets { OnOk result
             (IsSetAppended script.now page set.now out.old.items out.new.items) }
@@ -68,7 +68,7 @@ fn write_with(
     out: &mut Vec<u8>,
 ) -> Result<(), NoMemory>
     requires blocks { AreCoded script.now.pictures kept.now.coded.now }
-    requires sendable { IsSendable script.now set.now }
+    requires sendable { IsOfItsEpoch script.now set.now }
     requires fits { FitsPackets script.now set.now }
     ensures packets { OnOk result
         (IsSetAppended script.now page set.now out.old.items out.new.items) }
@@ -97,7 +97,7 @@ fn segments_of(
     room: u64,
 ) -> Result<Vec<u8>, NoMemory>
     requires blocks { AreCoded script.now.pictures kept.now.coded.now }
-    requires sendable { IsSendable script.now set.now }
+    requires sendable { IsOfItsEpoch script.now set.now }
     requires fits { FitsPackets script.now set.now }
     ensures { IfOk result
         (λ bytes. (segments : List SegmentValue) × AreSetSegments script.now page set.now segments

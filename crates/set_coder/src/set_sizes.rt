@@ -1,7 +1,7 @@
 ghost use Rattle.std.specs.Prelude.{◌≡◌, ℕ, ◌+◌, ◌*◌, ◌^◌, ◌<◌, ◌≤◌, List, [], ◌∷◌, ◌++◌, length, sum, sum_by, All, IfOk, OnOk, option_to_list};
 ghost use Rattle.cue_list.specs.declared.limits.TheConstants.{MOST_REGIONS};
 ghost use Rattle.pes_packets.specs.Units.{IsSegmentLength, AreUnitLengths};
-ghost use Rattle.page_epoch.specs.Sendable.{IsSendable, IsSendableRegion};
+ghost use Rattle.page_epoch.specs.Sendable.{IsOfItsEpoch, IsSendableRegion};
 ghost use Rattle.set_coder.specs.KeptBlocks.{AreCoded};
 ghost use Rattle.set_coder.specs.SetSizes.{sent_painting, AreUnitSizes, IsSetSize, IsLongestSegment, IsLoadAnswer, IsPaintedIn};
 ghost use Rattle.set_coder.specs.Private.Measuring.{IsMeasured, CanTake};
@@ -18,7 +18,7 @@ use sub_base::{Items, NoMemory, SetLoad, WriteLoad};
 /// How many bytes the PES packets of a set have together. No memory is taken: the blocks of its
 /// objects are measured, and not written.
 pub fn size_of(script: &Script, set: &PlannedSet) -> u64
-    requires { IsSendable script.now set.now }
+    requires { IsOfItsEpoch script.now set.now }
     ensures size { IsSetSize script.now set.now result }
     ensures some { 1 ≤ result }
 
@@ -38,7 +38,7 @@ pub fn size_of(script: &Script, set: &PlannedSet) -> u64
 /// What sending a set takes: when it is shown, the bytes of each of its PES packets and of all
 /// together, the ticks that painting its regions takes, and the bytes of its longest segment.
 pub fn load_of(alloc: Global, script: &Script, set: &PlannedSet) -> Result<WriteLoad, NoMemory>
-    requires { IsSendable script.now set.now }
+    requires { IsOfItsEpoch script.now set.now }
     ensures { IfOk result (IsLoadAnswer script.now set.now) }
 {
     load_with(alloc, &BlockLookup::nothing(), script, set)
@@ -48,7 +48,7 @@ impl KeptBlocks {
     /// What `load_of` says of a set of the script whose blocks these are.
     pub fn load_of(&self, script: &Script, set: &PlannedSet) -> Result<WriteLoad, NoMemory>
         requires kept { AreCoded script.now.pictures self.now.coded.items }
-        requires set { IsSendable script.now set.now }
+        requires set { IsOfItsEpoch script.now set.now }
         ensures { IfOk result (IsLoadAnswer script.now set.now) }
     {
         load_with(*self.coded.allocator(), &self.lookup(), script, set)
@@ -63,7 +63,7 @@ pub(crate) fn load_with(
     set: &PlannedSet,
 ) -> Result<WriteLoad, NoMemory>
     requires kept { AreCoded script.now.pictures kept.now.coded.now }
-    requires set { IsSendable script.now set.now }
+    requires set { IsOfItsEpoch script.now set.now }
     ensures { IfOk result (IsLoadAnswer script.now set.now) }
 {
     let measured = measure(alloc, kept, script, set)?;
@@ -98,7 +98,7 @@ fn measure(
     set: &PlannedSet,
 ) -> Result<Measured, NoMemory>
     requires kept { AreCoded script.now.pictures kept.now.coded.now }
-    requires set { IsSendable script.now set.now }
+    requires set { IsOfItsEpoch script.now set.now }
     ensures units { IfOk result
         (λ measured. AreUnitSizes script.now set.now measured.units.items) }
     ensures size { IfOk result (λ measured. measured.size ≡ sum measured.units.items) }
@@ -177,7 +177,7 @@ impl Measured {
 
 /// The ticks that painting the regions of a set takes.
 pub fn painted_in(script: &Script, set: &PlannedSet) -> u64
-    requires { IsSendable script.now set.now }
+    requires { IsOfItsEpoch script.now set.now }
     ensures painted { IsPaintedIn script.now set.now result }
     ensures short { result ≤ 274877906944 }
 {

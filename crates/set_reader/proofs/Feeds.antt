@@ -6,7 +6,7 @@ use Rattle.stream_syntax.specs.declared.transport.Event.{Event}
 use Rattle.stream_syntax.specs.declared.transport.Event.TheVariants as events
 use Rattle.ts_packets.specs.Brought.{bytes_by, too_long_by}
 use Rattle.ts_packets.specs.Demuxing as packets
-use Rattle.ts_packets.specs.Demuxing.{Demuxing, GoesOn}
+use Rattle.ts_packets.specs.Demuxing.{Demuxing, DemuxesOn}
 use Rattle.decoder_model.specs.Arrivals.{Arrival, arrivals_at, arrivals_of, losses_at, units_at, packets_taken, ends_too_long}
 use Rattle.decoder_model.specs.PacketArrivals.{PacketArrival, is_dropped, makes_ready, packet_arrival, run_before, unit_ended}
 use Rattle.decoder_model.specs.Sets.{Delivery, runs_of, sets_in}
@@ -15,18 +15,18 @@ use Rattle.display_sets.specs.Standing as sets
 use Rattle.display_sets.specs.Standing.{AreReady, IsFirst}
 use Rattle.display_sets.specs.declared.hand.UnitEnd.{UnitEnd}
 use Rattle.display_sets.proofs.PacketLaws.{arrivals_grow, ended_packets, none_arrived, sets_of_packets, taken_more}
-use Rattle.set_reader.specs.Collecting.{Collecting, IsCollecting, IsSameReader, Stands, sets_read}
+use Rattle.set_reader.specs.Collecting.{Collecting, IsCollecting, IsSameReader, IsReaderOf, sets_read}
 use Rattle.set_reader.specs.Private.Ends.{IsEndBehind, end_drops, end_parts}
 use Rattle.set_reader.proofs.Arrivals.{bytes_brought, too_long_brought}
 
 -- ---- before the first packet
 
-pub nothing_fed : (collecting : Collecting) → packets.Stands collecting.demux []
-    → sets.Stands [] false [] collecting.sets → Stands false [] [] collecting
+pub nothing_fed : (collecting : Collecting) → packets.HasDemuxed collecting.demux []
+    → sets.HasGathered [] false [] collecting.sets → IsReaderOf false [] [] collecting
 nothing_fed collecting demux stands = record {
   taken = refl;
   demux = demux;
-  sets = subst (λ (arrivals : List Arrival). sets.Stands arrivals false [] collecting.sets)
+  sets = subst (λ (arrivals : List Arrival). sets.HasGathered arrivals false [] collecting.sets)
       (sym (none_arrived collecting.sets.coded collecting.demux.pid collecting.sets.pages)) stands;
 }
 
@@ -35,7 +35,7 @@ no_sets [] are = refl
 no_sets (set ∷ sets) are = absurd are
 
 -- nothing is ready
-pub none_at_first : (gathered : Gathered) → sets.Stands [] false [] gathered → ready_sets gathered ≡ []
+pub none_at_first : (gathered : Gathered) → sets.HasGathered [] false [] gathered → ready_sets gathered ≡ []
 none_at_first gathered stands =
     no_sets (ready_sets gathered)
     (subst (λ (waiting : List (Delivery (List ℕ))). AreReady waiting (ready_sets gathered)) (sym stands.sets)
@@ -63,30 +63,32 @@ grown old new fed packet is taken none same =
 
 pub fed_stands : (old new : Collecting) (fed : List (List ℕ)) (packet : List ℕ)
     (given all : List (Delivery (List ℕ)))
-    → IsCollecting old → Stands false fed given old → packet_fault old.demux.pid packet ≡ None
-    → GoesOn old.demux new.demux packet → IsSameReader old new
-    → sets.Stands (arrived_at old fed ++ arrivals_at old.demux.size old.demux.pid old.sets.pages fed packet) false all
+    → IsCollecting old → IsReaderOf false fed given old → packet_fault old.demux.pid packet ≡ None
+    → DemuxesOn old.demux new.demux packet → IsSameReader old new
+    → sets.HasGathered (arrived_at old fed ++ arrivals_at old.demux.size old.demux.pid old.sets.pages fed packet) false
+    all
     new.sets
-    → Stands false (fed ++ packet ∷ []) all new
+    → IsReaderOf false (fed ++ packet ∷ []) all new
 fed_stands old new fed packet given all is stands none goes_on same gathers = record {
   taken = ap (λ (n : ℕ). packets_taken n (fed ++ packet ∷ [])) goes_on.pid
       ∙ taken_more old.demux.pid fed packet stands.taken none;
   demux = goes_on.stands fed stands.demux;
-  sets = subst (λ (arrivals : List Arrival). sets.Stands arrivals false all new.sets)
+  sets = subst (λ (arrivals : List Arrival). sets.HasGathered arrivals false all new.sets)
       (grown old new fed packet is stands.taken none same) gathers;
 }
 
 -- a packet that can be taken and brings nothing need not be fed
 pub passed_by : (collecting : Collecting) (fed : List (List ℕ)) (packet : List ℕ) (given : List (Delivery (List ℕ)))
-    → IsCollecting collecting → Stands false fed given collecting
-    → packet_fault collecting.demux.pid packet ≡ None → GoesOn collecting.demux collecting.demux packet
+    → IsCollecting collecting → IsReaderOf false fed given collecting
+    → packet_fault collecting.demux.pid packet ≡ None → DemuxesOn collecting.demux collecting.demux packet
     → event_at collecting.demux.pid collecting.demux.size fed packet ≡ events.Other
     → unit_at collecting.demux.pid collecting.demux.size fed packet ≡ None
-    → Stands false (fed ++ packet ∷ []) given collecting
+    → IsReaderOf false (fed ++ packet ∷ []) given collecting
 passed_by collecting fed packet given is stands none goes_on other no_unit =
     fed_stands collecting collecting fed packet given given is stands none goes_on
     (record { pid = refl; pages = refl; coded = refl })
-    (subst (λ (arrivals : List Arrival). sets.Stands arrivals false given collecting.sets) (sym nothing) stands.sets)
+    (subst (λ (arrivals : List Arrival). sets.HasGathered arrivals false given collecting.sets) (sym nothing)
+    stands.sets)
   where
     arrived : List Arrival
     arrived = arrived_at collecting fed
@@ -147,7 +149,7 @@ fed_arrival old fed packet event end size arrival is size_is told ends arrival_i
 -- the sets of the packets are those that were gathered
 pub sets_gathered : (ended : Bool) (fed : List (List ℕ)) (given : List (Delivery (List ℕ)))
     (collecting : Collecting)
-    → Stands ended fed given collecting
+    → IsReaderOf ended fed given collecting
     → sets_read collecting ended fed ≡ sets_in collecting.sets.coded ended (runs_of (arrived_at collecting fed))
 sets_gathered ended fed given collecting stands =
     let coded = collecting.sets.coded in
@@ -157,7 +159,7 @@ sets_gathered ended fed given collecting stands =
 
 -- the set that is ready first is the first one of them behind those given
 pub first_read : (ended : Bool) (fed : List (List ℕ)) (given : List (Delivery (List ℕ))) (collecting : Collecting)
-    (ready : Option ReadySet) → Stands ended fed given collecting
+    (ready : Option ReadySet) → IsReaderOf ended fed given collecting
     → IsFirst (sets_in collecting.sets.coded ended (runs_of (arrived_at collecting fed))) given ready
     → IsFirst (sets_read collecting ended fed) given ready
 first_read ended fed given collecting ready stands first =
@@ -167,11 +169,12 @@ first_read ended fed given collecting ready stands first =
 -- it was given
 pub given_stands : (ended : Bool) (fed : List (List ℕ)) (given all : List (Delivery (List ℕ)))
     (old new : Collecting)
-    → Stands ended fed given old → new.demux ≡ old.demux → IsSameReader old new
-    → sets.Stands (arrived_at old fed) ended all new.sets → Stands ended fed all new
+    → IsReaderOf ended fed given old → new.demux ≡ old.demux → IsSameReader old new
+    → sets.HasGathered (arrived_at old fed) ended all new.sets → IsReaderOf ended fed all new
 given_stands ended fed given all old new stands demux same gathered = record {
   taken = ap (λ (d : Demuxing). packets_taken d.pid fed) demux ∙ stands.taken;
-  demux = subst (λ (d : Demuxing). packets.Stands d fed) (sym demux) stands.demux;
-  sets = subst (λ (arrivals : List Arrival). sets.Stands arrivals ended all new.sets) (same_arrived old new fed same)
+  demux = subst (λ (d : Demuxing). packets.HasDemuxed d fed) (sym demux) stands.demux;
+  sets =
+      subst (λ (arrivals : List Arrival). sets.HasGathered arrivals ended all new.sets) (same_arrived old new fed same)
       gathered;
 }

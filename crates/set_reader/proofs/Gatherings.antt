@@ -12,7 +12,7 @@ use Rattle.decoder_model.specs.PacketArrivals.{last_run}
 use Rattle.decoder_model.specs.Sets.{Delivery, lost}
 use Rattle.display_sets.specs.Counted.{counted_in}
 use Rattle.display_sets.specs.Gathered.{Gathered}
-use Rattle.display_sets.specs.Standing.{IsUnitEnd, Stands}
+use Rattle.display_sets.specs.Standing.{IsUnitEnd, HasGathered}
 use Rattle.display_sets.specs.declared.hand.UnitEnd.{UnitEnd}
 use Rattle.display_sets.proofs.Standings.{aside_stands}
 use Rattle.set_reader.specs.Collecting.{losses}
@@ -41,26 +41,26 @@ lost_unit pages place bytes fault is other =
 
 -- a unit that was taken gives nothing
 pub taken_gathers : (arrivals : List Arrival) (arrival other : Arrival) (given : List (Delivery (List ℕ)))
-    (new : Gathered) → arrival ≡ other → Stands (arrivals ++ other ∷ []) false given new
-    → Stands (arrivals ++ arrival ∷ []) false (given ++ []) new
+    (new : Gathered) → arrival ≡ other → HasGathered (arrivals ++ other ∷ []) false given new
+    → HasGathered (arrivals ++ arrival ∷ []) false (given ++ []) new
 taken_gathers arrivals arrival other given new same stands =
-    subst (λ (all : List (Delivery (List ℕ))). Stands (arrivals ++ arrival ∷ []) false all new)
+    subst (λ (all : List (Delivery (List ℕ))). HasGathered (arrivals ++ arrival ∷ []) false all new)
     (sym (append-nil given))
-    (subst (λ (one : Arrival). Stands (arrivals ++ one ∷ []) false given new) (sym same) stands)
+    (subst (λ (one : Arrival). HasGathered (arrivals ++ one ∷ []) false given new) (sym same) stands)
 
 -- nor does one that is passed over
 pub passed_gathers : (arrivals : List Arrival) (arrival : Arrival) (given : List (Delivery (List ℕ))) (old : Gathered)
-    → arrival ≡ aside → Stands arrivals false given old
-    → Stands (arrivals ++ arrival ∷ []) false (given ++ []) old
+    → arrival ≡ aside → HasGathered arrivals false given old
+    → HasGathered (arrivals ++ arrival ∷ []) false (given ++ []) old
 passed_gathers arrivals arrival given old same stands =
     taken_gathers arrivals arrival aside given old same (aside_stands old arrivals given stands)
 
 -- one that is refused is a loss
 pub lost_gathers : (arrivals : List Arrival) (arrival : Arrival) (given : List (Delivery (List ℕ))) (new : Gathered)
-    → arrival ≡ refused_unit → Stands (arrivals ++ refused_unit ∷ []) false (given ++ lost ∷ []) new
-    → Stands (arrivals ++ arrival ∷ []) false (given ++ lost ∷ []) new
+    → arrival ≡ refused_unit → HasGathered (arrivals ++ refused_unit ∷ []) false (given ++ lost ∷ []) new
+    → HasGathered (arrivals ++ arrival ∷ []) false (given ++ lost ∷ []) new
 lost_gathers arrivals arrival given new same stands =
-    subst (λ (one : Arrival). Stands (arrivals ++ one ∷ []) false (given ++ lost ∷ []) new) (sym same) stands
+    subst (λ (one : Arrival). HasGathered (arrivals ++ one ∷ []) false (given ++ lost ∷ []) new) (sym same) stands
 
 -- the answer on a unit is that on what arrived
 pub end_of : (coded : ℕ) (arrivals : List Arrival) (arrival other : Arrival) (answer : UnitEnd) → arrival ≡ other
@@ -93,17 +93,17 @@ counted_losses false false count is = ap losses (sym is)
 pub fed_gathers : (arrivals : List Arrival) (event told : Event) (pages own : Pages) (place : ℕ)
     (unit ended : Option (List ℕ)) (given : List (Delivery (List ℕ))) (gathered : Gathered) (first other : Bool)
     (count : ℕ) → event ≡ told → pages ≡ own → unit ≡ ended → count ≡ cond first 1 0 + cond other 1 0
-    → Stands ((arrivals ++ losses_at event) ++ units_at pages place unit) false
+    → HasGathered ((arrivals ++ losses_at event) ++ units_at pages place unit) false
     ((given ++ lost_where first) ++ lost_where other) gathered
-    → Stands (arrivals ++ (losses_at told ++ units_at own place ended)) false (given ++ losses count) gathered
+    → HasGathered (arrivals ++ (losses_at told ++ units_at own place ended)) false (given ++ losses count) gathered
 fed_gathers arrivals event told pages own place unit ended given gathered first other count event_is pages_is unit_is
     count_is stands =
-    subst (λ (all : List Arrival). Stands all false (given ++ losses count) gathered)
+    subst (λ (all : List Arrival). HasGathered all false (given ++ losses count) gathered)
     (append_assoc arrivals (losses_at event) (units_at pages place unit)
     ∙ (λ i. arrivals ++ (losses_at (event_is i) ++ units_at (pages_is i) place (unit_is i))))
     (subst
     (λ (all : List (Delivery (List ℕ))).
-    Stands ((arrivals ++ losses_at event) ++ units_at pages place unit) false all gathered)
+    HasGathered ((arrivals ++ losses_at event) ++ units_at pages place unit) false all gathered)
     (append_assoc given (lost_where first) (lost_where other)
     ∙ ap (λ (all : List (Delivery (List ℕ))). given ++ all) (counted_losses first other count count_is))
     stands)

@@ -32,11 +32,11 @@ sets_read collecting ended fed =
 
 -- the reader was fed these packets, each of which it took, and the stream has ended with them or not; these sets and
 -- losses were given
-pub record Stands (ended : Bool) (fed : List (List ℕ)) (given : List (Delivery (List ℕ)))
+pub record IsReaderOf (ended : Bool) (fed : List (List ℕ)) (given : List (Delivery (List ℕ)))
     (collecting : Collecting) : Type 0 where
   pub taken : packets_taken collecting.demux.pid fed ≡ fed
-  pub demux : packets.Stands collecting.demux fed
-  pub sets : sets.Stands
+  pub demux : packets.HasDemuxed collecting.demux fed
+  pub sets : sets.HasGathered
       (arrivals_of collecting.sets.coded collecting.demux.pid collecting.sets.pages fed)
       ended given collecting.sets
 
@@ -45,9 +45,9 @@ abbrev pub losses : ℕ → List (Delivery (List ℕ))
 losses count = replicate count lost
 
 -- behind those given, this set or loss comes next, and then the rest
-abbrev pub IsNext : Bool → List (List ℕ) → List (Delivery (List ℕ)) → Delivery (List ℕ)
+abbrev pub IsNextRead : Bool → List (List ℕ) → List (Delivery (List ℕ)) → Delivery (List ℕ)
     → List (Delivery (List ℕ)) → Collecting → Type 0
-IsNext ended fed given next rest collecting = sets_read collecting ended fed ≡ given ++ next ∷ rest
+IsNextRead ended fed given next rest collecting = sets_read collecting ended fed ≡ given ++ next ∷ rest
 
 -- the same reader: its PID, pages, and coded bytes
 pub record IsSameReader (old new : Collecting) : Type 0 where

@@ -4,11 +4,11 @@ ghost use Rattle.std.specs.Prelude.{◌≡◌, ℕ, ◌≤◌, true, false, List
 ghost use Rattle.stream_syntax.specs.TransportPackets.{packet_fault};
 ghost use Rattle.stream_syntax.specs.Units.{event_at, unit_at};
 ghost use Rattle.ts_packets.specs.Demuxing as packets;
-ghost use Rattle.ts_packets.specs.Demuxing.{GoesOn};
+ghost use Rattle.ts_packets.specs.Demuxing.{DemuxesOn};
 ghost use Rattle.decoder_model.specs.Arrivals.{Arrival, arrivals_at};
 ghost use Rattle.decoder_model.specs.Sets.{Delivery};
 ghost use Rattle.display_sets.specs.Gathered.{ready_sets};
-ghost use Rattle.display_sets.specs.Standing.{Stands};
+ghost use Rattle.display_sets.specs.Standing.{HasGathered};
 ghost use Rattle.set_reader.specs.Collecting.{losses};
 ghost use Rattle.set_reader.specs.Private.Ends.{IsEndBehind};
 
@@ -36,21 +36,21 @@ pub(crate) fn feed(
         (λ fault. packet_fault demux.old.pid packet.now ≡ Some fault) }
     ensures unchanged { IfErr result
         (λ fault. (demux.new ≡ demux.old) × (sets.new ≡ sets.old)) }
-    ensures goes_on { OnOk result (GoesOn demux.old demux.new packet.now) }
+    ensures goes_on { OnOk result (DemuxesOn demux.old demux.new packet.now) }
     ensures event { IfOk result
-        (λ outcome. (before : List (List ℕ)) → packets.Stands demux.old before
+        (λ outcome. (before : List (List ℕ)) → packets.HasDemuxed demux.old before
         → outcome.event ≡ event_at demux.old.pid demux.old.size before packet.now) }
     ensures gathers { IfOk result
         (λ outcome. (before : List (List ℕ)) (arrivals : List Arrival)
         (given : List (Delivery (List ℕ)))
-        → packets.Stands demux.old before → Stands arrivals false given sets.old
-        → Stands (arrivals
+        → packets.HasDemuxed demux.old before → HasGathered arrivals false given sets.old
+        → HasGathered (arrivals
         ++ arrivals_at demux.old.size demux.old.pid sets.old.pages before packet.now)
         false (given ++ losses outcome.losses) sets.new) }
     ensures end { IfOk result
         (λ outcome. (before : List (List ℕ)) (arrivals : List Arrival)
         (given : List (Delivery (List ℕ)))
-        → packets.Stands demux.old before → Stands arrivals false given sets.old
+        → packets.HasDemuxed demux.old before → HasGathered arrivals false given sets.old
         → IsEndBehind sets.old.coded demux.old.size demux.old.pid sets.old.pages before packet.now
         arrivals outcome.end) }
     ensures few { IfOk result (λ outcome. outcome.losses ≤ 2) }

@@ -61,17 +61,17 @@ impl SetReader {
     ghost use Rattle.stream_syntax.specs.declared.wire.TheConstants.{PAYLOAD_LENGTH};
     ghost use Rattle.decoder_model.specs.PacketArrivals.{packet_arrival};
     ghost use Rattle.decoder_model.specs.Sets.{Delivery};
-    ghost use Rattle.display_sets.specs.Gathered.{IsSmall, first_ready, ready_sets, sets_behind};
+    ghost use Rattle.display_sets.specs.Gathered.{HasFewBytes, first_ready, ready_sets, sets_behind};
     ghost use Rattle.display_sets.specs.Lent.{lent};
     ghost use Rattle.display_sets.specs.Standing.{IsFirst};
     ghost use Rattle.set_reader.specs.Arrived.{arrival_value};
-    ghost use Rattle.set_reader.specs.Collecting.{IsNext, IsSameReader, Stands, losses};
+    ghost use Rattle.set_reader.specs.Collecting.{IsNextRead, IsSameReader, IsReaderOf, losses};
     ghost use Rattle.set_reader.specs.Collecting.{sets_read};
 
     /// A reader for a PID and these pages that was fed nothing. Units, and the segments of a set,
     /// of more than `coded` bytes are refused. All memory is taken here.
     pub fn make(alloc: Global, pid: u16, pages: Pages, coded: u32) -> Result<SetReader, NoMemory>
-        ensures stands { IfOk result (Stands false [] []) }
+        ensures stands { IfOk result (IsReaderOf false [] []) }
         ensures pid { IfOk result (λ reader. reader.demux.pid ≡ pid) }
         ensures pages { IfOk result (λ reader. reader.sets.pages ≡ pages) }
         ensures coded { IfOk result (λ reader. reader.sets.coded ≡ coded) }
@@ -98,14 +98,14 @@ impl SetReader {
         ensures unchanged { IfErr result (λ _. self.new ≡ self.old) }
         ensures stands { IfOk result (λ came.
             (fed : List (List ℕ)) (given : List (Delivery (List ℕ)))
-            → Stands false fed given self.old
-            → Stands false (fed ++ packet.now ∷ []) (given ++ losses came.losses) self.new) }
+            → IsReaderOf false fed given self.old
+            → IsReaderOf false (fed ++ packet.now ∷ []) (given ++ losses came.losses) self.new) }
         ensures event { IfOk result (λ came.
             (fed : List (List ℕ)) (given : List (Delivery (List ℕ)))
-            → Stands false fed given self.old
+            → IsReaderOf false fed given self.old
             → came.event ≡ event_at self.old.demux.pid self.old.sets.coded fed packet.now) }
         ensures arrival { OnOk result ((fed : List (List ℕ)) (given : List (Delivery (List ℕ)))
-            → Stands false fed given self.old
+            → IsReaderOf false fed given self.old
             → self.new.arrival ≡ packet_arrival self.old.sets.coded self.old.demux.pid
             self.old.sets.pages fed packet.now) }
         ensures few { IfOk result (λ came. came.losses ≤ 2) }
@@ -128,8 +128,8 @@ impl SetReader {
         ensures taken { IsTrue result → packet_fault self.now.demux.pid packet.now ≡ None }
         ensures stands { IsTrue result
             → (fed : List (List ℕ)) (given : List (Delivery (List ℕ)))
-            → Stands false fed given self.now
-            → Stands false (fed ++ packet.now ∷ []) given self.now }
+            → IsReaderOf false fed given self.now
+            → IsReaderOf false (fed ++ packet.now ∷ []) given self.now }
     {
         self.demux.is_other(packet)
     }
@@ -138,7 +138,7 @@ impl SetReader {
     pub fn finish(&mut self)
         requires none { ready_sets self.old.sets ≡ [] }
         ensures stands { (fed : List (List ℕ)) (given : List (Delivery (List ℕ)))
-            → Stands false fed given self.old → Stands true fed given self.new }
+            → IsReaderOf false fed given self.old → IsReaderOf true fed given self.new }
         ensures arrival { self.new.arrival ≡ self.old.arrival }
         ensures same { IsSameReader self.old self.new }
     {
@@ -151,12 +151,12 @@ impl SetReader {
         ensures first { option_map lent result ≡ first_ready (ready_sets self.now.sets) }
         ensures none { result ≡ None → ready_sets self.now.sets ≡ [] }
         ensures timely { ForSome result (λ ready. ready.time < 2 ^ 33) }
-        ensures small { ForSome result (λ ready. IsSmall self.now.sets.coded ready.size) }
+        ensures small { ForSome result (λ ready. HasFewBytes self.now.sets.coded ready.size) }
         ensures within { ForSome result
             (λ ready. IfOk ready.segments (λ bytes. length bytes.now < 2 ^ 32)) }
         ensures delivery { (fed : List (List ℕ)) (ended : Bool)
             (given : List (Delivery (List ℕ)))
-            → Stands ended fed given self.now
+            → IsReaderOf ended fed given self.now
             → IsFirst (sets_read self.now ended fed) given (option_map lent result) }
     {
         self.sets.ready()
@@ -167,9 +167,9 @@ impl SetReader {
     pub fn give(&mut self)
         ensures stands { (ended : Bool) (fed : List (List ℕ))
             (given rest : List (Delivery (List ℕ))) (delivery : Delivery (List ℕ))
-            → Stands ended fed given self.old
-            → IsNext ended fed given delivery rest self.old
-            → Stands ended fed (given ++ delivery ∷ []) self.new }
+            → IsReaderOf ended fed given self.old
+            → IsNextRead ended fed given delivery rest self.old
+            → IsReaderOf ended fed (given ++ delivery ∷ []) self.new }
         ensures left { ready_sets self.new.sets ≡ sets_behind (ready_sets self.old.sets) }
         ensures arrival { self.new.arrival ≡ self.old.arrival }
         ensures same { IsSameReader self.old self.new }

@@ -8,7 +8,7 @@ ghost use Rattle.decoder_model.specs.Arrivals.{Arrival, arrival_of_unit, losses_
 ghost use Rattle.decoder_model.specs.PacketArrivals.{last_run};
 ghost use Rattle.decoder_model.specs.Sets.{Delivery};
 ghost use Rattle.display_sets.specs.Gathered.{ready_sets};
-ghost use Rattle.display_sets.specs.Standing.{IsUnitEnd, Stands};
+ghost use Rattle.display_sets.specs.Standing.{IsUnitEnd, HasGathered};
 ghost use Rattle.set_reader.specs.Private.Ends.{IsEndOf, end_drops, end_parts, lost_where};
 
 use display_sets::{Gathering, UnitEnd};
@@ -37,8 +37,8 @@ pub(crate) fn lose_where(lost: bool, sets: &mut Gathering)
     requires none { ready_sets sets.old ≡ [] }
     ensures gathers { (event : Event) (arrivals : List Arrival) (given : List (Delivery (List ℕ)))
         → lost ≡ means_loss event
-        → Stands arrivals false given sets.old
-        → Stands (arrivals ++ losses_at event) false (given ++ lost_where lost) sets.new }
+        → HasGathered arrivals false given sets.old
+        → HasGathered (arrivals ++ losses_at event) false (given ++ lost_where lost) sets.new }
     ensures none { ready_sets sets.new ≡ [] }
     ensures pages { sets.new.pages ≡ sets.old.pages }
     ensures coded { sets.new.coded ≡ sets.old.coded }
@@ -53,11 +53,11 @@ pub(crate) fn take_ended(unit: Option<&[u8]>, sets: &mut Gathering) -> Ended
     requires none { ready_sets sets.old ≡ [] }
     requires short { ForSome unit (λ bytes. length bytes.now ≤ longest_unit) }
     ensures gathers { (arrivals : List Arrival) (given : List (Delivery (List ℕ))) (place : ℕ)
-        → Stands arrivals false given sets.old
-        → Stands (arrivals ++ units_at sets.old.pages place (option_copied unit.entry)) false
+        → HasGathered arrivals false given sets.old
+        → HasGathered (arrivals ++ units_at sets.old.pages place (option_copied unit.entry)) false
         (given ++ lost_where result.lost) sets.new }
     ensures end { (arrivals : List Arrival) (given : List (Delivery (List ℕ))) (place : ℕ)
-        → Stands arrivals false given sets.old
+        → HasGathered arrivals false given sets.old
         → IsEndOf sets.old.coded sets.old.pages place (last_run (reverse arrivals))
         (option_copied unit.entry) result.end }
     ensures pages { sets.new.pages ≡ sets.old.pages }
@@ -77,11 +77,11 @@ fn take_unit(unit: &[u8], sets: &mut Gathering) -> Ended
     requires none { ready_sets sets.old ≡ [] }
     requires short { length unit.now ≤ longest_unit }
     ensures gathers { (arrivals : List Arrival) (given : List (Delivery (List ℕ))) (place : ℕ)
-        → Stands arrivals false given sets.old
-        → Stands (arrivals ++ arrival_of_unit sets.old.pages place unit.now ∷ []) false
+        → HasGathered arrivals false given sets.old
+        → HasGathered (arrivals ++ arrival_of_unit sets.old.pages place unit.now ∷ []) false
         (given ++ lost_where result.lost) sets.new }
     ensures end { (arrivals : List Arrival) (given : List (Delivery (List ℕ))) (place : ℕ)
-        → Stands arrivals false given sets.old
+        → HasGathered arrivals false given sets.old
         → (end : UnitEnd) × (result.end ≡ Some end)
         × IsUnitEnd sets.old.coded (last_run (reverse arrivals))
         (arrival_of_unit sets.old.pages place unit.now) end }

@@ -9,14 +9,14 @@ use Rattle.decoder_model.specs.Verdict.{verdict_of}
 use Rattle.decoder_model.specs.declared.set_end.SetEnd.{SetEnd}
 use Rattle.decoder_model.proofs.Lists.{all-append}
 use Rattle.reading_laws.proofs.PacketsRead.{packets_read}
-use Rattle.set_receiver.specs.Receiving.{AreLosses, IsNext, Receiving, Stands, reception}
-use Rattle.set_receiver.specs.Taking.{AllTaken, AreBytes, AreLost, HasNext, HasPast}
+use Rattle.set_receiver.specs.Receiving.{AreLosses, IsNextReceived, SetReceiving, HasBeenFed, reception}
+use Rattle.set_receiver.specs.Taking.{AllReceived, AreAllBytes, AreLost, HasNextReceived, HasPast}
 use Rattle.set_receiver.proofs.TakenSets.{next_read, read_more}
 
 -- ---- before the first packet
 
-pub nothing_taken : (receiving : Receiving) → Stands false [] [] receiving → HasPast false [] [] receiving
-nothing_taken receiving stands = record { bytes = All-nil AreBytes; given = []; stands = stands; read = tt }
+pub nothing_taken : (receiving : SetReceiving) → HasBeenFed false [] [] receiving → HasPast false [] [] receiving
+nothing_taken receiving stands = record { bytes = All-nil AreAllBytes; given = []; stands = stands; read = tt }
 
 -- ---- a packet
 
@@ -51,16 +51,16 @@ losses_read (loss ∷ losses) given past are read =
     }
 
 -- a packet was fed
-pub record IsFed (packets : List (List ℕ)) (past : List (Delivery Reading)) (receiving : Receiving) : Type 0 where
+pub record IsFed (packets : List (List ℕ)) (past : List (Delivery Reading)) (receiving : SetReceiving) : Type 0 where
   pub more : List (Delivery Reading)
   pub are_lost : AreLost more
   pub has : HasPast false packets (more ++ past) receiving
 
-pub fed_past : (old new : Receiving) (packets : List (List ℕ)) (packet : List ℕ) (past : List (Delivery Reading))
-    → AreBytes packet
-    → ((fed : List (List ℕ)) (given : List (Delivery (List ℕ))) → Stands false fed given old
+pub fed_past : (old new : SetReceiving) (packets : List (List ℕ)) (packet : List ℕ) (past : List (Delivery Reading))
+    → AreAllBytes packet
+    → ((fed : List (List ℕ)) (given : List (Delivery (List ℕ))) → HasBeenFed false fed given old
     → (losses : List (Delivery (List ℕ))) × AreLosses losses
-    × Stands false (fed ++ packet ∷ []) (given ++ losses) new)
+    × HasBeenFed false (fed ++ packet ∷ []) (given ++ losses) new)
     → HasPast false packets past old → IsFed (packets ++ packet ∷ []) past new
 fed_past old new packets packet past bytes feeds has =
     let fed = feeds packets has.given has.stands in
@@ -69,7 +69,7 @@ fed_past old new packets packet past bytes feeds has =
       more = read.more;
       are_lost = read.are_lost;
       has = record {
-        bytes = All-push AreBytes packets packet has.bytes bytes;
+        bytes = All-push AreAllBytes packets packet has.bytes bytes;
         given = has.given ++ fed.0;
         stands = fed.2;
         read = read.read;
@@ -77,9 +77,9 @@ fed_past old new packets packet past bytes feeds has =
     }
 
 -- the stream has ended
-pub ended_past : (old new : Receiving) (packets : List (List ℕ)) (past : List (Delivery Reading))
-    → ((fed : List (List ℕ)) (given : List (Delivery (List ℕ))) → Stands false fed given old
-    → Stands true fed given new)
+pub ended_past : (old new : SetReceiving) (packets : List (List ℕ)) (past : List (Delivery Reading))
+    → ((fed : List (List ℕ)) (given : List (Delivery (List ℕ))) → HasBeenFed false fed given old
+    → HasBeenFed true fed given new)
     → HasPast false packets past old → HasPast true packets past new
 ended_past old new packets past ends has = record {
   bytes = has.bytes;
@@ -91,25 +91,25 @@ ended_past old new packets past ends has = record {
 -- ---- a set
 
 -- the set that was ready was taken, with that end and load
-pub record IsTaken (ended : Bool) (packets : List (List ℕ)) (past : List (Delivery Reading)) (old new : Receiving)
+pub record IsTaken (ended : Bool) (packets : List (List ℕ)) (past : List (Delivery Reading)) (old new : SetReceiving)
     (end : SetEnd) : Type 0 where
   pub one : Delivery Reading
   pub has : HasPast ended packets (one ∷ past) new
   pub verdict : Some end ≡ verdict_of (reception old).profile (reception old).anchor past one
   pub load : Some new.load ≡ set_load (reception old).profile (reception old).anchor past one
 
-module _ (old new : Receiving) (end : SetEnd) (has_next : HasNext old)
+module _ (old new : SetReceiving) (end : SetEnd) (has_next : HasNextReceived old)
     (takes : (ended : Bool) (packets : List (List ℕ)) (given rest : List (Delivery (List ℕ)))
-    (delivery : Delivery (List ℕ)) → IsNext ended packets given delivery rest old
-    → Stands ended packets (given ++ delivery ∷ []) new)
+    (delivery : Delivery (List ℕ)) → IsNextReceived ended packets given delivery rest old
+    → HasBeenFed ended packets (given ++ delivery ∷ []) new)
     (answers : (ended : Bool) (packets : List (List ℕ)) (given rest : List (Delivery (List ℕ)))
     (delivery : Delivery (List ℕ)) (past : List (Delivery Reading)) (one : Delivery Reading)
-    → IsNext ended packets given delivery rest old → AreDeliveriesRead (reverse given) past
+    → IsNextReceived ended packets given delivery rest old → AreDeliveriesRead (reverse given) past
     → IsDeliveryRead delivery one
     → Some end ≡ verdict_of (reception old).profile (reception old).anchor past one)
     (loads : (ended : Bool) (packets : List (List ℕ)) (given rest : List (Delivery (List ℕ)))
     (delivery : Delivery (List ℕ)) (past : List (Delivery Reading)) (one : Delivery Reading)
-    → IsNext ended packets given delivery rest old → AreDeliveriesRead (reverse given) past
+    → IsNextReceived ended packets given delivery rest old → AreDeliveriesRead (reverse given) past
     → IsDeliveryRead delivery one
     → Some new.load ≡ set_load (reception old).profile (reception old).anchor past one) where
   pub taken_past : (ended : Bool) (packets : List (List ℕ)) (past : List (Delivery Reading))
@@ -117,7 +117,7 @@ module _ (old new : Receiving) (end : SetEnd) (has_next : HasNext old)
   taken_past ended packets past has =
       let made = reception old in
       let next = has_next ended packets has.given has.stands in
-      let all = packets_read made.profile made.pid made.pages ended packets has.bytes in
+      let all = packets_read made ended packets has.bytes in
       let found = next_read made ended packets has.given next.1 next.0 all.0 all.1 next.2.all in
       record {
         one = found.0;
@@ -134,10 +134,9 @@ module _ (old new : Receiving) (end : SetEnd) (has_next : HasNext old)
 -- ---- all of it
 
 -- where all was taken, the past is what was received
-pub past_received : (ended : Bool) (packets : List (List ℕ)) (past : List (Delivery Reading)) (receiving : Receiving)
-    → AllTaken receiving → HasPast ended packets past receiving
-    → HasReceived (reception receiving).profile (reception receiving).pid (reception receiving).pages ended packets
-    past
+pub past_received : (ended : Bool) (packets : List (List ℕ)) (past : List (Delivery Reading)) (receiving : SetReceiving)
+    → AllReceived receiving → HasPast ended packets past receiving
+    → HasReceived (reception receiving) ended packets past
 past_received ended packets past receiving all has =
     subst (λ (sets : List (Delivery (List ℕ))). AreDeliveriesRead (reverse sets) past)
     (sym (all packets ended has.given has.stands)) has.read

@@ -2,12 +2,12 @@
 use Rattle.std.proofs.Common.{◌≡◌, ◌∙◌, ℕ, zero, suc, ◌+◌, Bool, List, [], ◌∷◌, ◌++◌, reverse, append-nil, append_assoc, refl, sym, ap, subst, arith}
 use Rattle.std.proofs.lemmas.List.{reverse-append}
 use Rattle.decoder_model.specs.Readings.{AreDeliveriesRead, IsDeliveryRead, Reading}
-use Rattle.decoder_model.specs.Received.{HasReceived}
+use Rattle.decoder_model.specs.Received.{HasReceived, Reception, sets_received}
 use Rattle.decoder_model.specs.Sets.{Delivery, lost}
 use Rattle.page_core.specs.Memory as cores
 use Rattle.page_core.specs.Memory.{IsSameReceiver, Memory}
 use Rattle.set_reader.specs.Collecting.{losses}
-use Rattle.set_receiver.specs.Receiving.{AreLosses, Holds, Loses, Reception, sets_received}
+use Rattle.set_receiver.specs.Receiving.{AreLosses, HoldsReceived, Loses}
 
 -- ---- readings of what comes next
 
@@ -39,7 +39,7 @@ first_read delivery behind (one ∷ past) are = (one, are.0)
 -- what comes next in packets of bytes is read
 pub next_read : (reception : Reception) (ended : Bool) (packets : List (List ℕ))
     (given rest : List (Delivery (List ℕ))) (delivery : Delivery (List ℕ)) (past : List (Delivery Reading))
-    → HasReceived reception.profile reception.pid reception.pages ended packets past
+    → HasReceived reception ended packets past
     → sets_received reception ended packets ≡ given ++ delivery ∷ rest
     → (one : Delivery Reading) × IsDeliveryRead delivery one
 next_read reception ended packets given rest delivery past received all =
@@ -122,20 +122,20 @@ more_losses (suc count) = ap (λ (all : List (Delivery (List ℕ))). lost ∷ al
 pub loses_none : (core : Memory) → Loses 0 core core
 loses_none core = record {
   goes = λ given. λ holds.
-      subst (λ (all : List (Delivery (List ℕ))). Holds all core) (sym (append-nil given)) holds;
+      subst (λ (all : List (Delivery (List ℕ))). HoldsReceived all core) (sym (append-nil given)) holds;
 }
 
 -- and one to which a loss more came
 pub loses_more : (count : ℕ) (old mid new : Memory) → Loses count old mid
-    → ((past : List (Delivery Reading)) → cores.Stands past mid → cores.Stands (lost ∷ past) new)
+    → ((past : List (Delivery Reading)) → cores.IsMemoryAfter past mid → cores.IsMemoryAfter (lost ∷ past) new)
     → Loses (count + 1) old new
 loses_more count old mid new loses step = record {
   goes = λ given. λ holds.
-      subst (λ (all : List (Delivery (List ℕ))). Holds all new)
+      subst (λ (all : List (Delivery (List ℕ))). HoldsReceived all new)
       (append_assoc given (losses count) (lost ∷ [])
       ∙ ap (λ (all : List (Delivery (List ℕ))). given ++ all)
       (more_losses count ∙ ap losses (let same : suc count ≡ count + 1 = omega arith in same)))
-      (one_lost (λ past. cores.Stands past mid) (λ past. cores.Stands past new) (given ++ losses count)
+      (one_lost (λ past. cores.IsMemoryAfter past mid) (λ past. cores.IsMemoryAfter past new) (given ++ losses count)
       (loses.goes given holds) step);
 }
 

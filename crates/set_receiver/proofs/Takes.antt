@@ -4,6 +4,7 @@ use Rattle.std.specs.Prelude.{option_and_then}
 use Rattle.std.proofs.lemmas.List.{length-append}
 use Rattle.decoder_model.specs.Kept.{last_time, lifted_behind, lifted_time, time_of}
 use Rattle.decoder_model.specs.Readings.{IsDeliveryRead, Reading}
+use Rattle.decoder_model.specs.Received.{sets_received}
 use Rattle.decoder_model.specs.Sets.{Delivery, lost, refused, sets_of, whole}
 use Rattle.display_sets.specs.Gathered.{Gathered, ReadySet, first_ready, ready_sets}
 use Rattle.display_sets.specs.Standing.{AreReady, IsFirst, IsReady}
@@ -11,11 +12,11 @@ use Rattle.page_core.specs.Memory as cores
 use Rattle.page_core.specs.Memory.{Memory}
 use Rattle.set_reader.specs.Collecting.{sets_read}
 use Rattle.set_reader.proofs.Feeds.{sets_gathered}
-use Rattle.set_receiver.specs.Receiving.{Holds, IsNext, Receiving, Stands, reception, sets_received, set_time}
+use Rattle.set_receiver.specs.Receiving.{HoldsReceived, IsNextReceived, SetReceiving, HasBeenFed, reception, set_time}
 
 -- the sets of the packets are those that the reader gives
-pub sets_read_are : (ended : Bool) (fed : List (List ℕ)) (given : List (Delivery (List ℕ))) (receiving : Receiving)
-    → Stands ended fed given receiving
+pub sets_read_are : (ended : Bool) (fed : List (List ℕ)) (given : List (Delivery (List ℕ))) (receiving : SetReceiving)
+    → HasBeenFed ended fed given receiving
     → sets_received (reception receiving) ended fed ≡ sets_read receiving.collecting ended fed
 sets_read_are ended fed given receiving stands =
     ap (λ (n : ℕ). sets_of n receiving.collecting.demux.pid receiving.collecting.sets.pages ended fed)
@@ -29,11 +30,11 @@ ready_time (whole time size segments) set (time_is, size_is, content) = ap Some 
 ready_time (refused time size fault) set (time_is, size_is, content) = ap Some (sym time_is)
 
 -- where a set is ready, it comes next
-pub some_ready : (ended : Bool) (fed : List (List ℕ)) (given : List (Delivery (List ℕ))) (receiving : Receiving)
-    (set : ReadySet) → Stands ended fed given receiving
+pub some_ready : (ended : Bool) (fed : List (List ℕ)) (given : List (Delivery (List ℕ))) (receiving : SetReceiving)
+    (set : ReadySet) → HasBeenFed ended fed given receiving
     → IsFirst (sets_read receiving.collecting ended fed) given (Some set)
     → (delivery : Delivery (List ℕ)) × (rest : List (Delivery (List ℕ)))
-    × IsNext ended fed given delivery rest receiving × (time_of delivery ≡ Some set.time)
+    × IsNextReceived ended fed given delivery rest receiving × (time_of delivery ≡ Some set.time)
 some_ready ended fed given receiving set stands (delivery, rest, split, ready) = (
   delivery,
   rest,
@@ -72,8 +73,8 @@ same_next {X} (x ∷ front) a b more rest is =
 
 -- the first set that is ready is the next one
 pub next_ready : (ended : Bool) (fed : List (List ℕ)) (given : List (Delivery (List ℕ)))
-    (delivery : Delivery (List ℕ)) (rest : List (Delivery (List ℕ))) (receiving : Receiving) (set : ReadySet)
-    → IsNext ended fed given delivery rest receiving
+    (delivery : Delivery (List ℕ)) (rest : List (Delivery (List ℕ))) (receiving : SetReceiving) (set : ReadySet)
+    → IsNextReceived ended fed given delivery rest receiving
     → IsFirst (sets_read receiving.collecting ended fed) given (Some set) → IsReady delivery set
 next_ready ended fed given delivery rest receiving set next (other, more, split, ready) =
     subst (λ (d : Delivery (List ℕ)). IsReady d set)
@@ -101,8 +102,8 @@ none_waiting (delivery ∷ waiting) [] are none = absurd are
 none_waiting (delivery ∷ waiting) (set ∷ sets) are none = absurd (cc)
 
 -- where nothing is ready, the sets of the packets are those that were taken
-pub all_taken : (ended : Bool) (fed : List (List ℕ)) (given : List (Delivery (List ℕ))) (receiving : Receiving)
-    → Stands ended fed given receiving → ready_sets receiving.collecting.sets ≡ []
+pub all_taken : (ended : Bool) (fed : List (List ℕ)) (given : List (Delivery (List ℕ))) (receiving : SetReceiving)
+    → HasBeenFed ended fed given receiving → ready_sets receiving.collecting.sets ≡ []
     → sets_received (reception receiving) ended fed ≡ given
 all_taken ended fed given receiving stands none =
     let sets = stands.reads.sets in
@@ -115,6 +116,6 @@ all_taken ended fed given receiving stands none =
 -- ---- before the first packet
 
 -- nothing was handed to the page memory
-pub none_given : (core : Memory) → cores.Stands [] core → Holds [] core
+pub none_given : (core : Memory) → cores.IsMemoryAfter [] core → HoldsReceived [] core
 none_given core stands [] are = stands
 none_given core stands (one ∷ past) are = absurd are

@@ -23,9 +23,9 @@ pub struct SetReceiver {
 }
 
 impl Model for SetReceiver {
-    ghost use Rattle.set_receiver.specs.Receiving.{IsReceiver, Receiving};
+    ghost use Rattle.set_receiver.specs.Receiving.{IsReceiver, SetReceiving};
 
-    ghost Value = { Receiving };
+    ghost Value = { SetReceiving };
 
     ghost view = { λ r. record { collecting = r.reader; core = r.core; load = r.load } };
 
@@ -50,6 +50,7 @@ impl SetReceiver {
     ghost use Rattle.decoder_model.specs.Verdict.{verdict_of};
     ghost use Rattle.decoder_model.specs.PacketArrivals.{packet_arrival};
     ghost use Rattle.decoder_model.specs.Readings.{AreDeliveriesRead, IsDeliveryRead, Reading};
+    ghost use Rattle.decoder_model.specs.Received.{sets_received};
     ghost use Rattle.decoder_model.specs.Sets.{Delivery};
     ghost use Rattle.decoder_model.specs.declared.set_end.SetEnd.TheVariants.{Shown};
     ghost use Rattle.display_sets.specs.Gathered.{first_ready, ready_sets, sets_behind};
@@ -57,9 +58,9 @@ impl SetReceiver {
     ghost use Rattle.display_sets.specs.Standing.{IsFirst};
     ghost use Rattle.set_reader.specs.Arrived.{arrival_value};
     ghost use Rattle.set_reader.specs.Collecting.{losses};
-    ghost use Rattle.set_receiver.specs.Receiving.{AreLosses, IsNext, IsSame, Stands};
+    ghost use Rattle.set_receiver.specs.Receiving.{AreLosses, IsNextReceived, IsSameReception, HasBeenFed};
     ghost use Rattle.sub_base.specs.declared.profile.TheConstants.{LARGEST_BUFFER};
-    ghost use Rattle.set_receiver.specs.Receiving.{reception, sets_received, set_time};
+    ghost use Rattle.set_receiver.specs.Receiving.{reception, set_time};
 
     /// A receiver of a profile, for a PID and these pages, that was fed nothing. Lifted times begin
     /// at the anchor. All memory is taken here.
@@ -73,7 +74,7 @@ impl SetReceiver {
         requires coded { profile.now.coded < 2 ^ 32 }
         requires nodes { profile.now.nodes < 2 ^ 31 }
         requires anchor { anchor < 2 ^ 34 }
-        ensures stands { IfOk result (Stands false [] []) }
+        ensures stands { IfOk result (HasBeenFed false [] []) }
         ensures made { IfOk result (λ receiver. reception receiver
             ≡ record { profile = profile.now; pid = pid; pages = pages; anchor = anchor }) }
         ensures page { IfOk result (λ receiver. receiver.core.page ≡ pages.composition) }
@@ -99,21 +100,21 @@ impl SetReceiver {
             (λ fault. packet_fault (reception self.old).pid packet.now ≡ Some fault) }
         ensures unchanged { IfErr result (λ _. self.new ≡ self.old) }
         ensures stands { OnOk result ((fed : List (List ℕ)) (given : List (Delivery (List ℕ)))
-            → Stands false fed given self.old
+            → HasBeenFed false fed given self.old
             → (losses : List (Delivery (List ℕ))) × AreLosses losses
-            × Stands false (fed ++ packet.now ∷ []) (given ++ losses) self.new) }
+            × HasBeenFed false (fed ++ packet.now ∷ []) (given ++ losses) self.new) }
         ensures event { IfOk result (λ event.
             (fed : List (List ℕ)) (given : List (Delivery (List ℕ)))
-            → Stands false fed given self.old
+            → HasBeenFed false fed given self.old
             → event ≡ event_at (reception self.old).pid (reception self.old).profile.coded fed
             packet.now) }
         ensures arrival { OnOk result ((fed : List (List ℕ)) (given : List (Delivery (List ℕ)))
-            → Stands false fed given self.old
+            → HasBeenFed false fed given self.old
             → self.new.collecting.arrival ≡ packet_arrival (reception self.old).profile.coded
             (reception self.old).pid (reception self.old).pages fed packet.now) }
         ensures load { self.new.load ≡ self.old.load }
         ensures page { self.new.core.page ≡ self.old.core.page }
-        ensures same { IsSame self.old self.new }
+        ensures same { IsSameReception self.old self.new }
     {
         let came = self.feed_counting(packet)?;
         Ok(came.event)
@@ -128,20 +129,20 @@ impl SetReceiver {
         ensures unchanged { IfErr result (λ _. self.new ≡ self.old) }
         ensures stands { IfOk result (λ came.
             (fed : List (List ℕ)) (given : List (Delivery (List ℕ)))
-            → Stands false fed given self.old
-            → Stands false (fed ++ packet.now ∷ []) (given ++ losses came.losses) self.new) }
+            → HasBeenFed false fed given self.old
+            → HasBeenFed false (fed ++ packet.now ∷ []) (given ++ losses came.losses) self.new) }
         ensures event { IfOk result (λ came.
             (fed : List (List ℕ)) (given : List (Delivery (List ℕ)))
-            → Stands false fed given self.old
+            → HasBeenFed false fed given self.old
             → came.event ≡ event_at (reception self.old).pid (reception self.old).profile.coded fed
             packet.now) }
         ensures arrival { OnOk result ((fed : List (List ℕ)) (given : List (Delivery (List ℕ)))
-            → Stands false fed given self.old
+            → HasBeenFed false fed given self.old
             → self.new.collecting.arrival ≡ packet_arrival (reception self.old).profile.coded
             (reception self.old).pid (reception self.old).pages fed packet.now) }
         ensures load { self.new.load ≡ self.old.load }
         ensures page { self.new.core.page ≡ self.old.core.page }
-        ensures same { IsSame self.old self.new }
+        ensures same { IsSameReception self.old self.new }
     {
         let came = self.reader.feed(packet)?;
         lose(&mut self.core, came.losses);
@@ -156,8 +157,8 @@ impl SetReceiver {
         ensures taken { IsTrue result → packet_fault (reception self.now).pid packet.now ≡ None }
         ensures stands { IsTrue result
             → (fed : List (List ℕ)) (given : List (Delivery (List ℕ)))
-            → Stands false fed given self.now
-            → Stands false (fed ++ packet.now ∷ []) given self.now }
+            → HasBeenFed false fed given self.now
+            → HasBeenFed false (fed ++ packet.now ∷ []) given self.now }
     {
         self.reader.is_other(packet)
     }
@@ -166,12 +167,12 @@ impl SetReceiver {
     pub fn finish(&mut self)
         requires none { ready_sets self.old.collecting.sets ≡ [] }
         ensures stands { (fed : List (List ℕ)) (given : List (Delivery (List ℕ)))
-            → Stands false fed given self.old → Stands true fed given self.new }
+            → HasBeenFed false fed given self.old → HasBeenFed true fed given self.new }
         ensures core { self.new.core ≡ self.old.core }
         ensures arrival { self.new.collecting.arrival ≡ self.old.collecting.arrival }
         ensures load { self.new.load ≡ self.old.load }
         ensures page { self.new.core.page ≡ self.old.core.page }
-        ensures same { IsSame self.old self.new }
+        ensures same { IsSameReception self.old self.new }
     {
         self.reader.finish();
     }
@@ -184,13 +185,14 @@ impl SetReceiver {
         ensures none { result ≡ None → ready_sets self.now.collecting.sets ≡ [] }
         ensures all { result ≡ None
             → (fed : List (List ℕ)) (ended : Bool) (given : List (Delivery (List ℕ)))
-            → Stands ended fed given self.now
+            → HasBeenFed ended fed given self.now
             → sets_received (reception self.now) ended fed ≡ given }
         ensures next { IfSome result (λ time.
             (fed : List (List ℕ)) (ended : Bool) (given : List (Delivery (List ℕ)))
-            → Stands ended fed given self.now
+            → HasBeenFed ended fed given self.now
             → (delivery : Delivery (List ℕ)) × (rest : List (Delivery (List ℕ)))
-            × IsNext ended fed given delivery rest self.now × (time_of delivery ≡ Some time)) }
+            × IsNextReceived ended fed given delivery rest self.now
+            × (time_of delivery ≡ Some time)) }
     {
         let ready = self.reader.ready()?;
         Some(ready.time)
@@ -202,7 +204,7 @@ impl SetReceiver {
             ≡ first_ready (ready_sets self.now.collecting.sets) }
         ensures delivery { (fed : List (List ℕ)) (ended : Bool)
             (given : List (Delivery (List ℕ)))
-            → Stands ended fed given self.now
+            → HasBeenFed ended fed given self.now
             → IsFirst (sets_received (reception self.now) ended fed) given
             (option_map lent result) }
         ensures within { ForSome result
@@ -216,7 +218,7 @@ impl SetReceiver {
     pub fn ready_at(&self) -> Option<u64>
         ensures lifted { (fed : List (List ℕ)) (ended : Bool) (given : List (Delivery (List ℕ)))
             (past : List (Delivery Reading))
-            → Stands ended fed given self.now → AreDeliveriesRead (reverse given) past
+            → HasBeenFed ended fed given self.now → AreDeliveriesRead (reverse given) past
             → result ≡ option_and_then
             (lifted_behind (reception self.now).anchor
             (last_time (reception self.now).anchor past))
@@ -224,7 +226,8 @@ impl SetReceiver {
         ensures next { (fed : List (List ℕ)) (ended : Bool)
             (given rest : List (Delivery (List ℕ)))
             (next : Delivery (List ℕ)) (past : List (Delivery Reading)) (one : Delivery Reading)
-            → IsNext ended fed given next rest self.now → AreDeliveriesRead (reverse given) past
+            → IsNextReceived ended fed given next rest self.now
+            → AreDeliveriesRead (reverse given) past
             → IsDeliveryRead next one
             → result ≡ lifted_time (reception self.now).anchor past one }
         ensures bounded { IfSome result (λ time. time < 2 ^ 62) }
@@ -238,12 +241,12 @@ impl SetReceiver {
         requires ready { IsSome (first_ready (ready_sets self.old.collecting.sets)) }
         ensures stands { (ended : Bool) (fed : List (List ℕ))
             (given rest : List (Delivery (List ℕ))) (delivery : Delivery (List ℕ))
-            → IsNext ended fed given delivery rest self.old
-            → Stands ended fed (given ++ delivery ∷ []) self.new }
+            → IsNextReceived ended fed given delivery rest self.old
+            → HasBeenFed ended fed (given ++ delivery ∷ []) self.new }
         ensures answer { (ended : Bool) (fed : List (List ℕ))
             (given rest : List (Delivery (List ℕ))) (delivery : Delivery (List ℕ))
             (past : List (Delivery Reading)) (one : Delivery Reading)
-            → IsNext ended fed given delivery rest self.old
+            → IsNextReceived ended fed given delivery rest self.old
             → AreDeliveriesRead (reverse given) past
             → IsDeliveryRead delivery one
             → Some result
@@ -251,7 +254,7 @@ impl SetReceiver {
         ensures load { (ended : Bool) (fed : List (List ℕ))
             (given rest : List (Delivery (List ℕ))) (delivery : Delivery (List ℕ))
             (past : List (Delivery Reading)) (one : Delivery Reading)
-            → IsNext ended fed given delivery rest self.old
+            → IsNextReceived ended fed given delivery rest self.old
             → AreDeliveriesRead (reverse given) past
             → IsDeliveryRead delivery one
             → Some self.new.load
@@ -261,7 +264,7 @@ impl SetReceiver {
         ensures known { result ≡ Shown → self.new.core.known ≡ true }
         ensures arrival { self.new.collecting.arrival ≡ self.old.collecting.arrival }
         ensures page { self.new.core.page ≡ self.old.core.page }
-        ensures same { IsSame self.old self.new }
+        ensures same { IsSameReception self.old self.new }
     {
         match self.reader.ready() {
             None => SetEnd::Waiting, // There is one.

@@ -8,12 +8,12 @@ ghost use Rattle.decoder_model.specs.Received.{AreRead};
 ghost use Rattle.decoder_model.specs.Sets.{Delivery, refused, whole};
 ghost use Rattle.decoder_model.specs.Verdict.{verdict_of};
 ghost use Rattle.decoder_model.specs.declared.set_end.SetEnd.TheVariants.{Shown};
-ghost use Rattle.display_sets.specs.Gathered.{IsSmall};
+ghost use Rattle.display_sets.specs.Gathered.{HasFewBytes};
 ghost use Rattle.display_sets.specs.Lent.{lent};
 ghost use Rattle.display_sets.specs.Standing.{IsReady};
 ghost use Rattle.page_core.specs.Memory.{IsSameReceiver};
-ghost use Rattle.set_receiver.specs.Receiving.{IsLoadOf};
-ghost use Rattle.page_core.specs.Memory.{Stands};
+ghost use Rattle.set_receiver.specs.Receiving.{IsBoundedLoad};
+ghost use Rattle.page_core.specs.Memory.{IsMemoryAfter};
 ghost use Rattle.set_receiver.specs.Private.Verdicts.{IsVerdictOf};
 
 use display_sets::Ready;
@@ -31,24 +31,24 @@ pub(crate) struct Taken {
 pub(crate) fn take(ready: Ready<'_>, core: &mut Core) -> Taken
     requires time { ready.time < 2 ^ 33 }
     requires within { IfOk ready.segments (λ bytes. length bytes.now < 2 ^ 32) }
-    requires small { IsSmall core.old.profile.coded ready.size }
+    requires small { HasFewBytes core.old.profile.coded ready.size }
     ensures stands { (past : List (Delivery Reading)) (delivery : Delivery (List ℕ))
         (one : Delivery Reading)
         → IsReady delivery (lent ready.entry) → IsDeliveryRead delivery one
-        → Stands past core.old
-        → Stands (one ∷ past) core.new }
+        → IsMemoryAfter past core.old
+        → IsMemoryAfter (one ∷ past) core.new }
     ensures answer { (past : List (Delivery Reading)) (delivery : Delivery (List ℕ))
         (one : Delivery Reading)
         → IsReady delivery (lent ready.entry) → IsDeliveryRead delivery one
-        → Stands past core.old
+        → IsMemoryAfter past core.old
         → Some result.end ≡ verdict_of core.old.profile core.old.anchor past one }
     ensures load { (past : List (Delivery Reading)) (delivery : Delivery (List ℕ))
         (one : Delivery Reading)
         → IsReady delivery (lent ready.entry) → IsDeliveryRead delivery one
-        → Stands past core.old
+        → IsMemoryAfter past core.old
         → Some result.load ≡ set_load core.old.profile core.old.anchor past one }
     ensures known { result.end ≡ Shown → core.new.known ≡ true }
-    ensures bounded { IsLoadOf core.old.profile.coded result.load }
+    ensures bounded { IsBoundedLoad core.old.profile.coded result.load }
     ensures same { IsSameReceiver core.old core.new }
 {
     let pts = core.lift(ready.time).unwrap_or(ready.time);

@@ -3,18 +3,16 @@ use Rattle.std.proofs.Common.{◌≡◌, ◌∙◌, refl, sym, subst, ℕ, ◌�
 use Rattle.std.specs.List.{AllZip}
 use Rattle.sub_base.specs.Profile.{profile_of}
 use Rattle.sub_base.specs.declared.load.WriteLoad.{WriteLoad}
-use Rattle.sub_base.specs.declared.profile.ProfileName.{ProfileName}
-use Rattle.cue_list.specs.declared.script.Script.{Script}
 use Rattle.page_epoch.specs.declared.planned_set.PlannedSet.{PlannedSet}
 use Rattle.page_epoch.proofs.OnePlan.{one_plan}
-use Rattle.schedule.specs.Slots.{IsSchedule, Timetable}
+use Rattle.schedule.specs.Slots.{IsSchedule}
 use Rattle.schedule.proofs.AnswerLaws.{one_schedule}
 use Rattle.set_coder.specs.SetSegments.{AreSetPackets}
 use Rattle.set_coder.specs.SetSizes.{IsSetLoad}
 use Rattle.set_coder.proofs.OnePackets.{one_packets}
 use Rattle.set_coder.proofs.SetSizeLaws.{one_load}
 use Rattle.slot_stream.specs.SlotStream.{all_pieces, stream_of}
-use Rattle.shown_stream.specs.Compiled.{AreLoads, AreUnits, IsCompiledTo, all_units, sent_pace}
+use Rattle.shown_stream.specs.Compiled.{AreLoads, AreUnitsOfSets, IsCompiledTo, all_units, sent_pace, Compiling}
 
 -- lists that stand to one list, place by place, as one item alone can, are the same
 one_beside : {A B : Type 0} (R : A → B → Type 0) (xs : List A) (ys zs : List B)
@@ -30,23 +28,25 @@ one_beside R (x ∷ xs) (y ∷ ys) (z ∷ zs) one first second =
     λ i. head i ∷ tail i
 
 -- a script is compiled to one stream, for a profile, a PID and a page
-pub one_stream : (profile : ProfileName) (pid page : ℕ) (script : Script) (packets others : List ℕ)
-    → IsCompiledTo profile pid page script packets → IsCompiledTo profile pid page script others
+pub one_stream : (compiling : Compiling) (packets others : List ℕ)
+    → IsCompiledTo compiling packets → IsCompiledTo compiling others
     → packets ≡ others
-one_stream profile pid page script packets others first second =
-    let pace = sent_pace profile script in
+one_stream compiling packets others first second =
+    let pace = sent_pace compiling.profile compiling.script in
     let sets : second.sets ≡ first.sets =
-    one_plan script (profile_of profile) second.sets first.sets second.planned.plan first.planned.plan in
-    let Loads : List PlannedSet → Type 0 = λ sets. AreLoads script sets second.loads in
+    one_plan compiling.script (profile_of compiling.profile) second.sets first.sets second.planned.plan
+    first.planned.plan in
+    let Loads : List PlannedSet → Type 0 = λ sets. AreLoads compiling.script sets second.loads in
     let loads : second.loads ≡ first.loads =
-    one_beside (IsSetLoad script) first.sets second.loads first.loads (one_load script)
+    one_beside (IsSetLoad compiling.script) first.sets second.loads first.loads (one_load compiling.script)
     (subst Loads sets second.planned.asked) first.planned.asked in
-    let Units : List PlannedSet → Type 0 = λ sets. AreUnits script page sets second.units in
+    let Units : List PlannedSet → Type 0 = λ sets. AreUnitsOfSets compiling.script compiling.page sets second.units in
     let units : first.units ≡ second.units =
-    one_beside (AreSetPackets script page) first.sets first.units second.units (one_packets script page) first.carried
+    one_beside (AreSetPackets compiling.script compiling.page) first.sets first.units second.units
+    (one_packets compiling.script compiling.page) first.carried
     (subst Units sets second.carried) in
     let Schedule : List WriteLoad → Type 0 = λ loads. IsSchedule loads (length loads) pace second.table in
     let table : first.table ≡ second.table =
     one_schedule first.loads (length first.loads) pace first.table second.table first.each (omega arith)
     first.schedule (subst Schedule loads second.schedule) in
-    first.sent ∙ (λ i. stream_of pid (all_pieces (all_units (units i))) (table i).slots) ∙ sym second.sent
+    first.sent ∙ (λ i. stream_of compiling.pid (all_pieces (all_units (units i))) (table i).slots) ∙ sym second.sent

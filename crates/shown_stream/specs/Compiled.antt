@@ -2,10 +2,12 @@
 use Rattle.std.specs.Prelude.{◌≡◌, ℕ, List, All, length, map, IsSome}
 use Rattle.std.specs.List.{AllZip}
 use Rattle.cue_list.specs.declared.script.Script.{Script}
+use Rattle.decoder_model.specs.Received.{Reception, for_page}
 use Rattle.page_epoch.specs.Plan.{IsPlan}
 use Rattle.page_epoch.specs.declared.planned_set.PlannedSet.{PlannedSet}
 use Rattle.sub_base.specs.Pace.{pace_of}
 use Rattle.schedule.specs.Slots.{Timetable, IsLoad, IsSchedule, IsOnTime}
+use Rattle.sent_sets.specs.SentStream.{AreSizedAs}
 use Rattle.set_coder.specs.SetSegments.{AreSetPackets}
 use Rattle.set_coder.specs.SetSizes.{IsSetLoad}
 use Rattle.sub_base.specs.Profile.{profile_of}
@@ -15,21 +17,35 @@ use Rattle.slot_stream.specs.SlotStream.{all_pieces, stream_of}
 use Rattle.sub_base.specs.Lists.{all_of}
 use Rattle.sub_base.specs.declared.pace.Pace.{Pace}
 
+-- ---- how it is compiled
+
+-- a script is compiled for receivers of a profile, on a PID and for a page
+pub record Compiling : Type 0 where
+  pub profile : ProfileName
+  pub pid : ℕ
+  pub page : ℕ
+  pub script : Script
+
+abbrev pub compiling_for : ProfileName → ℕ → ℕ → Script → Compiling
+compiling_for profile pid page script = record { profile = profile; pid = pid; page = page; script = script }
+
+-- a receiver of its packets with that anchor
+abbrev pub received_by : Compiling → ℕ → Reception
+received_by compiling anchor = for_page compiling.profile compiling.pid compiling.page anchor
+
 -- a profile that scripts are compiled for: packets are sent in it
 abbrev pub IsCompiledFor : ProfileName → Type 0
 IsCompiledFor name = IsSome (profile_of name).step
 
+-- ---- its packets
+
 -- the PES packets of display sets, those of each set together
-abbrev pub AreUnits : Script → ℕ → List PlannedSet → List (List (List ℕ)) → Type 0
-AreUnits script page sets units = AllZip (AreSetPackets script page) sets units
+abbrev pub AreUnitsOfSets : Script → ℕ → List PlannedSet → List (List (List ℕ)) → Type 0
+AreUnitsOfSets script page sets units = AllZip (AreSetPackets script page) sets units
 
 -- what sending each of these sets takes
 abbrev pub AreLoads : Script → List PlannedSet → List WriteLoad → Type 0
 AreLoads script sets loads = AllZip (IsSetLoad script) sets loads
-
--- the PES packets of each set have as many bytes as its load says
-abbrev pub AreSizedAs : List WriteLoad → List (List (List ℕ)) → Type 0
-AreSizedAs loads units = AllZip (λ load set_units. map length set_units ≡ load.units) loads units
 
 -- the PES packets of all sets, in order
 abbrev pub all_units : List (List (List ℕ)) → List (List ℕ)
@@ -47,15 +63,15 @@ pub record IsPlanned (profile : ProfileName) (script : Script) (sets : List Plan
 
 -- the packets: those of the PES packets of the plan's sets, each of which can be scheduled, at the slots of their
 -- schedule, and null packets at all slots between
-pub record IsCompiledTo (profile : ProfileName) (pid page : ℕ) (script : Script) (packets : List ℕ) : Type 0 where
+pub record IsCompiledTo (compiling : Compiling) (packets : List ℕ) : Type 0 where
   pub sets : List PlannedSet
   pub loads : List WriteLoad
-  pub planned : IsPlanned profile script sets loads
+  pub planned : IsPlanned compiling.profile compiling.script sets loads
   pub each : All IsLoad loads
   pub units : List (List (List ℕ))
-  pub carried : AreUnits script page sets units
+  pub carried : AreUnitsOfSets compiling.script compiling.page sets units
   pub sized : AreSizedAs loads units
   pub table : Timetable
-  pub schedule : IsSchedule loads (length loads) (sent_pace profile script) table
-  pub on_time : IsOnTime loads (length loads) (sent_pace profile script) table
-  pub sent : packets ≡ stream_of pid (all_pieces (all_units units)) table.slots
+  pub schedule : IsSchedule loads (length loads) (sent_pace compiling.profile compiling.script) table
+  pub on_time : IsOnTime loads (length loads) (sent_pace compiling.profile compiling.script) table
+  pub sent : packets ≡ stream_of compiling.pid (all_pieces (all_units units)) table.slots

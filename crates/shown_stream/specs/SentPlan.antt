@@ -12,11 +12,42 @@ use Rattle.cue_list.specs.declared.script.Script.{Script}
 use Rattle.page_epoch.specs.Plan.{IsPlan}
 use Rattle.page_epoch.specs.declared.planned_set.PlannedSet.{PlannedSet}
 use Rattle.schedule.specs.Slots.{Timetable}
-use Rattle.decoder_model.specs.Frames.{is_of_page}
+use Rattle.decoder_model.specs.Frames.{is_of_page, only}
 use Rattle.decoder_model.specs.declared.pages.Pages.{Pages}
+use Rattle.decoder_model.specs.Received.{Reception, for_pages}
 use Rattle.shown_plan.specs.NamedSets.{AreNamedSegments}
 use Rattle.sent_sets.specs.RawSets.{RawSet, IsSendable, counted_in, EndsLast}
 use Rattle.sent_sets.specs.SentStream.{IsSentTo}
+use Rattle.shown_stream.specs.Compiled.{Compiling}
+
+-- ---- what is sent
+
+-- the sets of a script's plan are sent for receivers of a profile, on a PID and for the pages of a service, in the
+-- slots of their schedule
+pub record SentPlan : Type 0 where
+  pub profile : ProfileName
+  pub pid : ℕ
+  pub pages : Pages
+  pub script : Script
+  pub sets : List PlannedSet
+  pub table : Timetable
+
+-- so they are sent where the script is compiled, by these sets and slots
+abbrev pub sent_plan : Compiling → List PlannedSet → Timetable → SentPlan
+sent_plan compiling sets table = record {
+  profile = compiling.profile;
+  pid = compiling.pid;
+  pages = only compiling.page;
+  script = compiling.script;
+  sets = sets;
+  table = table;
+}
+
+-- a receiver that they are sent for, with that anchor
+abbrev pub received_with : SentPlan → ℕ → Reception
+received_with sent anchor = for_pages sent.profile sent.pid sent.pages anchor
+
+-- ---- in packets
 
 -- the bytes are that segment, written for some page
 abbrev pub IsWrittenAs : SegmentValue → List ℕ → Type 0
@@ -41,14 +72,14 @@ pub record HasPageFirst (pages : Pages) (set : RawSet) : Type 0 where
       → IsSharedOut length set.segments (first ∷ units)
       → All (AreWithoutPage pages) units
 
--- in these packets the sets of the script's plan are sent for a receiver of the pages, in the slots of their schedule
-pub record IsSentPlan (profile : ProfileName) (pid : ℕ) (pages : Pages) (script : Script) (sets : List PlannedSet)
-    (table : Timetable) (packets : List ℕ) : Type 0 where
-  pub plan : IsPlan script (profile_of profile) sets
+-- in these packets the sets of the plan are so sent
+pub record IsSentPlan (sending : SentPlan) (packets : List ℕ) : Type 0 where
+  pub plan : IsPlan sending.script (profile_of sending.profile) sending.sets
   pub raw : List RawSet
   pub loads : List WriteLoad
   pub sendable : All IsSendable raw
-  pub ends : All (EndsLast pages) raw
-  pub sent : IsSentTo (pace_of script.origin (profile_of profile)) pid raw loads table packets
-  pub carries : AllZip (CarriesSet script pages) sets raw
-  pub page_first : All (HasPageFirst pages) raw
+  pub ends : All (EndsLast sending.pages) raw
+  pub sent : IsSentTo (pace_of sending.script.origin (profile_of sending.profile)) sending.pid raw loads sending.table
+      packets
+  pub carries : AllZip (CarriesSet sending.script sending.pages) sending.sets raw
+  pub page_first : All (HasPageFirst sending.pages) raw

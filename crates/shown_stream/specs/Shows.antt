@@ -1,9 +1,8 @@
 -- Packets that show what is authored.
 use Rattle.std.specs.Prelude.{ℕ, ◌+◌, ◌≤◌, ◌<◌, true, List, All, Option}
-use Rattle.sub_base.specs.declared.profile.Profile.{Profile}
 use Rattle.cue_list.specs.Authored.{authored_picture}
 use Rattle.cue_list.specs.declared.script.Script.{Script}
-use Rattle.decoder_model.specs.declared.pages.Pages.{Pages}
+use Rattle.decoder_model.specs.Received.{Reception}
 use Rattle.decoder_model.specs.Shown.{View, plane, IsShown, Agrees}
 use Rattle.decoder_model.specs.Streams.{SentSet, IsShownFrom}
 use Rattle.stream_syntax.specs.declared.wire.TheConstants.{TIME_ROUND}
@@ -24,18 +23,16 @@ Suits anchor time = (anchor ≤ time) × (time < anchor + TIME_ROUND)
 abbrev pub IsAnchorOf : List ℕ → ℕ → Type 0
 IsAnchorOf times anchor = All (Suits anchor) times
 
--- a receiver of the profile with that anchor that gets these packets, with which the stream ends, shows at a tick, for
--- a PID and these pages, what agrees with that view
-pub record Shows (profile : Profile) (pid : ℕ) (pages : Pages) (anchor : ℕ) (packets : List (List ℕ)) (tick : ℕ)
-    (wanted : View) : Type 0 where
+-- a receiver that gets these packets, with which the stream ends, shows at a tick what agrees with that view
+pub record Shows (reception : Reception) (packets : List (List ℕ)) (tick : ℕ) (wanted : View) : Type 0 where
   pub shown : View
-  pub is_shown : IsShown profile pid pages anchor true packets tick shown
+  pub is_shown : IsShown reception true packets tick shown
   pub agrees : Agrees shown wanted
 
--- a receiver of the profile with that anchor that gets these packets, with which the stream ends, shows at a tick, by
--- the set with which it enters: nothing without one and before its time, and from then on what agrees with that view
-pub record ShowsFrom (profile : Profile) (pid : ℕ) (pages : Pages) (anchor : ℕ) (packets : List (List ℕ))
-    (entry : Option SentSet) (tick : ℕ) (wanted : View) : Type 0 where
+-- a receiver that gets these packets, with which the stream ends, shows at a tick, by the set with which it enters:
+-- nothing without one and before its time, and from then on what agrees with that view
+pub record ShowsFrom (reception : Reception) (packets : List (List ℕ)) (entry : Option SentSet) (tick : ℕ)
+    (wanted : View) : Type 0 where
   pub shown : View
-  pub is_shown : IsShown profile pid pages anchor true packets tick shown
+  pub is_shown : IsShown reception true packets tick shown
   pub from_entry : IsShownFrom entry tick shown wanted

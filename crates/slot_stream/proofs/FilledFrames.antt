@@ -8,7 +8,7 @@ use Rattle.std.proofs.lemmas.List.FromFn.{get_or-map-range_with_len, length-map-
 use Rattle.stream_syntax.specs.TransportPackets.{null_packet}
 use Rattle.slot_stream.specs.Private.Frames.{AreNull, AreNullElsewhere}
 use Rattle.slot_stream.specs.SlotStream.{Piece, packet_at, slot_packet}
-use Rattle.slot_stream.specs.SlotWalk.{IsNext}
+use Rattle.slot_stream.specs.SlotWalk.{IsNextPlace}
 use Rattle.slot_stream.proofs.PieceLaws.{at_most_or_above}
 use Rattle.slot_stream.proofs.SlotLaws.{later_slot, place_from-none}
 
@@ -23,7 +23,8 @@ HasNone slots next number slot = (j : ℕ) → next ≤ j → j < number → get
 -- ---- the slots of a frame
 
 -- those before the frame, and those behind it, have other slots than the frame has
-none_there : (slots : List ℕ) (next end from many i : ℕ) → IsNext slots next from → IsNext slots end (from + many)
+none_there : (slots : List ℕ) (next end from many i : ℕ) → IsNextPlace slots next from
+    → IsNextPlace slots end (from + many)
     → i < many → HasNone slots next end (from + i) → (j : ℕ) → j < length slots → get_or slots j 0 ≢ from + i
 none_there slots next end from many i first last within none j short =
     elim (at_most_or_above next j) [
@@ -35,8 +36,8 @@ none_there slots next end from many i first last within none j short =
     ]
 
 -- the frame's slots are those from one number up to another
-pub next_within : (slots : List ℕ) (next end from many : ℕ) → IsNext slots next from
-    → IsNext slots end (from + many) → next ≤ end
+pub next_within : (slots : List ℕ) (next end from many : ℕ) → IsNextPlace slots next from
+    → IsNextPlace slots end (from + many) → next ≤ end
 next_within slots next end from many first last =
     elim (at_most_or_above next end) [
       | inl low ↦ low
@@ -49,7 +50,7 @@ next_within slots next end from many first last =
 
 -- a piece is the next one at its slot
 pub next_at : (slots : List ℕ) (number : ℕ) → IsStrictlyIncreasing slots → number < length slots
-    → IsNext slots number (get_or slots number 0)
+    → IsNextPlace slots number (get_or slots number 0)
 next_at slots number rising short = record {
   within = omega arith;
   before = λ j low. later_slot slots j number rising low short;
@@ -102,7 +103,7 @@ filling_more sent slots next number from place frame packet fits here is filling
     ]
 
 pub filled : (pid : ℕ) (pieces : List Piece) (slots : List ℕ) (next end from many : ℕ) (frame : List (List ℕ))
-    → length frame ≡ many → IsNext slots next from → IsNext slots end (from + many)
+    → length frame ≡ many → IsNextPlace slots next from → IsNextPlace slots end (from + many)
     → IsFilling (slot_packet pid pieces slots) slots next end from frame
     → frame ≡ map (slot_packet pid pieces slots) (range_with_len from many)
 filled pid pieces slots next end from many frame long first last filling =
@@ -142,8 +143,8 @@ abbrev pub IsClearing : List ℕ → ℕ → ℕ → ℕ → List (List ℕ) →
 IsClearing slots number end from frame = (i : ℕ) → i < length frame → HasNone slots number end (from + i)
     → get_or frame i [] ≡ null_packet
 
-pub clearing_begins : (slots : List ℕ) (next end from : ℕ) (frame : List (List ℕ)) → IsNext slots next from
-    → IsNext slots end (from + length frame) → AreNullElsewhere slots from frame
+pub clearing_begins : (slots : List ℕ) (next end from : ℕ) (frame : List (List ℕ)) → IsNextPlace slots next from
+    → IsNextPlace slots end (from + length frame) → AreNullElsewhere slots from frame
     → IsClearing slots next end from frame
 clearing_begins slots next end from frame first last elsewhere = λ i within none. elsewhere i within
     (place_from-none slots 0 (from + i) (none_there slots next end from (length frame) i first last within none))

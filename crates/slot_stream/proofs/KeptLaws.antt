@@ -8,9 +8,9 @@ use Rattle.std.proofs.lemmas.Grind.{flat_map-append}
 use Rattle.std.proofs.lemmas.List.{append-nil, get_or-drop, get_or_default, length-take-le, take_more}
 use Rattle.std.proofs.Math.Seq.{drop-append_seam}
 use Rattle.stream_syntax.specs.TransportPackets.{null_packet}
-use Rattle.slot_stream.specs.KeptPackets.{IsKept, Kept, kept_packet, listed_packet, numbered, packets_from}
+use Rattle.slot_stream.specs.KeptPackets.{HaveRisingSlots, SlottedPackets, kept_packet, listed_packet, numbered, packets_from}
 use Rattle.slot_stream.specs.SlotStream.{IsPiece, Piece, no_piece, packet_at, packet_of, packets_before, place_from, slot_packet}
-use Rattle.slot_stream.specs.SlotWalk.{IsNext}
+use Rattle.slot_stream.specs.SlotWalk.{IsNextPlace}
 use Rattle.slot_stream.proofs.FrontPackets.{length-before, length-packet}
 use Rattle.slot_stream.proofs.LaidPackets.{joined_map, map-same, range-split}
 use Rattle.slot_stream.proofs.SlotLaws.{IsNext-idle, IsNext-sent, later_slot, place_from-idle, place_from-next}
@@ -64,21 +64,23 @@ numbered_whole pid number (piece ∷ pieces) each (suc k) d within =
 
 -- ---- the packet at a slot
 
-pub kept_next : (kept : Kept) (next slot : ℕ) (d : List ℕ) → IsNext kept.slots next slot
+pub kept_next : (kept : SlottedPackets) (next slot : ℕ) (d : List ℕ) → IsNextPlace kept.slots next slot
     → length kept.slots ≡ length kept.packets → next < length kept.slots → get_or kept.slots next 0 ≡ slot
     → kept_packet kept slot ≡ get_or kept.packets next d
 kept_next kept next slot d at pairs within is =
     ap (listed_packet kept.packets) (place_from-next kept.slots next slot at within is)
     ∙ get_or_default kept.packets next null_packet d (omega (arith, within, pairs))
 
-pub kept_idle : (kept : Kept) (next slot : ℕ) → IsStrictlyIncreasing kept.slots → IsNext kept.slots next slot
+pub kept_idle : (kept : SlottedPackets) (next slot : ℕ) → IsStrictlyIncreasing kept.slots
+    → IsNextPlace kept.slots next slot
     → (next < length kept.slots → get_or kept.slots next 0 ≢ slot) → kept_packet kept slot ≡ null_packet
 kept_idle kept next slot rising at idle =
     ap (listed_packet kept.packets) (place_from-idle kept.slots next slot rising at idle)
 
 -- what holds of the packet that is put out next holds of the one at its slot
-pub next_put : (Holds : List ℕ → Type 0) (kept : Kept) (next slot : ℕ) (slots : List ℕ) (packets : List (List ℕ))
-    (d : List ℕ) → slots ≡ kept.slots → packets ≡ kept.packets → IsKept kept → IsNext kept.slots next slot
+pub next_put : (Holds : List ℕ → Type 0) (kept : SlottedPackets) (next slot : ℕ) (slots : List ℕ)
+    (packets : List (List ℕ))
+    (d : List ℕ) → slots ≡ kept.slots → packets ≡ kept.packets → HaveRisingSlots kept → IsNextPlace kept.slots next slot
     → next < length slots → get_or slots next 0 ≡ slot → Holds (get_or packets next d) → Holds (kept_packet kept slot)
 next_put Holds kept next slot slots packets d same are good at within is holds =
     let inside : next < length kept.slots = subst (λ (xs : List ℕ). next < length xs) same within in
@@ -87,30 +89,31 @@ next_put Holds kept next slot slots packets d same are good at within is holds =
     subst Holds (ap (λ (xs : List (List ℕ)). get_or xs next d) are ∙ sym told) holds
 
 -- what holds of the null packet holds of the one at a slot that no packet is kept for
-pub idle_put : (Holds : List ℕ → Type 0) (kept : Kept) (next slot : ℕ) (slots null : List ℕ) → slots ≡ kept.slots
-    → IsKept kept → IsNext kept.slots next slot → (next < length slots → get_or slots next 0 ≢ slot)
+pub idle_put : (Holds : List ℕ → Type 0) (kept : SlottedPackets) (next slot : ℕ) (slots null : List ℕ)
+    → slots ≡ kept.slots
+    → HaveRisingSlots kept → IsNextPlace kept.slots next slot → (next < length slots → get_or slots next 0 ≢ slot)
     → null ≡ null_packet → Holds null → Holds (kept_packet kept slot)
 idle_put Holds kept next slot slots null same good at idle is holds =
     let Idle : List ℕ → Type 0 = λ xs. next < length xs → get_or xs next 0 ≢ slot in
     subst Holds (is ∙ sym (kept_idle kept next slot good.rising at (subst Idle same idle))) holds
 
 -- after the slot of a packet that is kept, and after another one
-pub next_sent : (kept : Kept) (next slot : ℕ) (slots : List ℕ) → slots ≡ kept.slots → IsKept kept
-    → IsNext kept.slots next slot → next < length slots → get_or slots next 0 ≡ slot
-    → IsNext kept.slots (next + 1) (slot + 1)
+pub next_sent : (kept : SlottedPackets) (next slot : ℕ) (slots : List ℕ) → slots ≡ kept.slots → HaveRisingSlots kept
+    → IsNextPlace kept.slots next slot → next < length slots → get_or slots next 0 ≡ slot
+    → IsNextPlace kept.slots (next + 1) (slot + 1)
 next_sent kept next slot slots same good at within is =
     IsNext-sent kept.slots next slot good.rising at (subst (λ (xs : List ℕ). next < length xs) same within)
     (ap (λ (xs : List ℕ). get_or xs next 0) (sym same) ∙ is)
 
-pub next_idle : (kept : Kept) (next slot : ℕ) (slots : List ℕ) → slots ≡ kept.slots → IsKept kept
-    → IsNext kept.slots next slot → (next < length slots → get_or slots next 0 ≢ slot)
-    → IsNext kept.slots next (slot + 1)
+pub next_idle : (kept : SlottedPackets) (next slot : ℕ) (slots : List ℕ) → slots ≡ kept.slots → HaveRisingSlots kept
+    → IsNextPlace kept.slots next slot → (next < length slots → get_or slots next 0 ≢ slot)
+    → IsNextPlace kept.slots next (slot + 1)
 next_idle kept next slot slots same good at idle =
     let Idle : List ℕ → Type 0 = λ xs. next < length xs → get_or xs next 0 ≢ slot in
     IsNext-idle kept.slots next slot good.rising at (subst Idle same idle)
 
 -- one slot more is put out
-pub packets_more : (kept : Kept) (from slot : ℕ) → from ≤ slot
+pub packets_more : (kept : SlottedPackets) (from slot : ℕ) → from ≤ slot
     → packets_from kept from (slot + 1 - from) ≡ packets_from kept from (slot - from) ++ kept_packet kept slot
 packets_more kept from slot order =
     let count = slot - from in
@@ -123,7 +126,7 @@ packets_more kept from slot order =
     (append-nil (kept_packet kept (from + count)) ∙ ap (kept_packet kept) place)
 
 -- what is put out goes on to the last slot
-pub packets_rest : (kept : Kept) (from slot until : ℕ) → from ≤ slot → slot ≤ until
+pub packets_rest : (kept : SlottedPackets) (from slot until : ℕ) → from ≤ slot → slot ≤ until
     → (rest : List ℕ) × (packets_from kept from (slot - from) ++ rest ≡ packets_from kept from (until - from))
 packets_rest kept from slot until order within =
     let count = slot - from in
@@ -151,7 +154,7 @@ never_falls slots rising i j d low short =
 -- the slots before one, found by parting
 pub first_next : (slots : List ℕ) (next from : ℕ) → next ≤ length slots
     → IsPartitionPoint (λ slot. nat_lt slot from ≡ true) (λ slot. nat_lt slot from ≡ false) slots next
-    → IsNext slots next from
+    → IsNextPlace slots next from
 first_next slots next from within (before, after) = record {
   within = within;
   before = λ j low. let test = before j 0 (omega arith) low in below (get_or slots j 0) from test;
@@ -210,7 +213,7 @@ place_below number slot bound (first ∷ slots) most =
     (place_below (number + 1) slot bound slots (omega (arith, most)))
 
 -- the packets that are left of pieces
-abbrev pub left_of : ℕ → List Piece → List ℕ → ℕ → Kept
+abbrev pub left_of : ℕ → List Piece → List ℕ → ℕ → SlottedPackets
 left_of pid pieces slots n = record { slots = drop n slots; packets = numbered pid n (drop n pieces) }
 
 same_packet : (pid : ℕ) (pieces : List Piece) (n : ℕ) (place : Option ℕ) → IsBelow (length (drop n pieces)) place

@@ -8,7 +8,7 @@ use Rattle.std.specs.List.{flat_map, range_with_len}
 use Rattle.std.proofs.lemmas.Bool.{eq-eqb, ne_eqb}
 use Rattle.slot_stream.proofs.LaidPackets.{range-split}
 use Rattle.slot_stream.specs.SlotStream.{Piece, place_from, slot_packet, packet_at, packet_of, no_piece}
-use Rattle.slot_stream.specs.SlotWalk.{IsNext}
+use Rattle.slot_stream.specs.SlotWalk.{IsNextPlace}
 
 -- a number is below another, the same, or above it
 compared : (a b : ℕ) → (a < b) ⊎ ((a ≡ b) ⊎ (b < a))
@@ -41,14 +41,14 @@ pub later_slot : (slots : List ℕ) (i j : ℕ) → IsStrictlyIncreasing slots �
 later_slot slots i j rising below within = AllPairs-from_increasing slots rising i j 0 below within
 
 -- the slot is that of the next piece
-pub place_from-next : (slots : List ℕ) (next slot : ℕ) → IsNext slots next slot → next < length slots
+pub place_from-next : (slots : List ℕ) (next slot : ℕ) → IsNextPlace slots next slot → next < length slots
     → get_or slots next 0 ≡ slot → place_from 0 slot slots ≡ Some next
 place_from-next slots next slot at within is =
     place_from-found slots next 0 slot (λ j h. let less : get_or slots j 0
     < slot = at.before j h in λ e. omega arith) within is ∙ ap Some (omega arith)
 
 -- the slot is that of no piece
-pub place_from-idle : (slots : List ℕ) (next slot : ℕ) → IsStrictlyIncreasing slots → IsNext slots next slot
+pub place_from-idle : (slots : List ℕ) (next slot : ℕ) → IsStrictlyIncreasing slots → IsNextPlace slots next slot
     → (next < length slots → get_or slots next 0 ≢ slot) → place_from 0 slot slots ≡ None
 place_from-idle slots next slot rising at idle = place_from-none slots 0 slot (λ j h e. differs j h e)
   where
@@ -64,8 +64,8 @@ place_from-idle slots next slot rising at idle = place_from-none slots 0 slot (�
         ]
 
 -- after the slot of the next piece
-pub IsNext-sent : (slots : List ℕ) (next slot : ℕ) → IsStrictlyIncreasing slots → IsNext slots next slot
-    → next < length slots → get_or slots next 0 ≡ slot → IsNext slots (next + 1) (slot + 1)
+pub IsNext-sent : (slots : List ℕ) (next slot : ℕ) → IsStrictlyIncreasing slots → IsNextPlace slots next slot
+    → next < length slots → get_or slots next 0 ≡ slot → IsNextPlace slots (next + 1) (slot + 1)
 IsNext-sent slots next slot rising at within is =
     record {
       within = omega arith;
@@ -84,8 +84,8 @@ IsNext-sent slots next slot rising at within is =
         ]
 
 -- after a slot of no piece
-pub IsNext-idle : (slots : List ℕ) (next slot : ℕ) → IsStrictlyIncreasing slots → IsNext slots next slot
-    → (next < length slots → get_or slots next 0 ≢ slot) → IsNext slots next (slot + 1)
+pub IsNext-idle : (slots : List ℕ) (next slot : ℕ) → IsStrictlyIncreasing slots → IsNextPlace slots next slot
+    → (next < length slots → get_or slots next 0 ≢ slot) → IsNextPlace slots next (slot + 1)
 IsNext-idle slots next slot rising at idle =
     record {
       within = at.within;
@@ -107,7 +107,7 @@ IsNext-idle slots next slot rising at idle =
 
 -- the packet of the next piece
 pub slot_packet-next : (pid : ℕ) (pieces : List Piece) (slots : List ℕ) (next slot : ℕ) (d : Piece)
-    → IsNext slots next slot → length slots ≡ length pieces → next < length slots
+    → IsNextPlace slots next slot → length slots ≡ length pieces → next < length slots
     → get_or slots next 0 ≡ slot
     → slot_packet pid pieces slots slot ≡ packet_of pid next (get_or pieces next d)
 slot_packet-next pid pieces slots next slot d at pairs within is =

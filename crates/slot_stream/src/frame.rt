@@ -6,7 +6,7 @@ ghost use Rattle.std.specs.List.Sorted.{IsStrictlyIncreasing};
 ghost use Rattle.sub_base.specs.Endpoints.{HasWriteFault, Wrote, WrotePrefix};
 ghost use Rattle.slot_stream.specs.SlotStream.{IsPiece, packet_of, packets_before, slot_packet};
 ghost use Rattle.slot_stream.specs.Private.Frames.{AreNull, AreNullElsewhere, packets_at};
-ghost use Rattle.slot_stream.specs.SlotWalk.{IsNext};
+ghost use Rattle.slot_stream.specs.SlotWalk.{IsNextPlace};
 
 use crate::kept::first_from;
 use crate::piece::Piece;
@@ -84,7 +84,7 @@ fn write_frame<K: Sink>(
     requires each { All IsPiece pieces.now }
     requires pairs { length slots.now ≡ length pieces.now }
     requires rising { IsStrictlyIncreasing slots.now }
-    requires next { IsNext slots.now next from }
+    requires next { IsNextPlace slots.now next from }
     requires counter { packetiser.old.counter ≡ next % 16 }
     requires short { from + length frame.old < 2 ^ 64 }
     requires null { AreNull frame.old }
@@ -96,7 +96,7 @@ fn write_frame<K: Sink>(
     ensures cause { OnErr result (HasWriteFault (K.received sink.old) (K.received sink.new)) }
     ensures pid { packetiser.new.pid ≡ packetiser.old.pid }
     ensures counter { IfOk result (λ sent. packetiser.new.counter ≡ sent % 16) }
-    ensures next { IfOk result (λ sent. IsNext slots.now sent (from + length frame.old)) }
+    ensures next { IfOk result (λ sent. IsNextPlace slots.now sent (from + length frame.old)) }
     ensures length { length frame.new ≡ length frame.old }
     ensures null { OnOk result (AreNull frame.new) }
 {
@@ -120,8 +120,8 @@ fn fill(
     requires each { All IsPiece pieces.now }
     requires pairs { length slots.now ≡ length pieces.now }
     requires rising { IsStrictlyIncreasing slots.now }
-    requires next { IsNext slots.now next from }
-    requires end { IsNext slots.now end (from + length frame.old) }
+    requires next { IsNextPlace slots.now next from }
+    requires end { IsNextPlace slots.now end (from + length frame.old) }
     requires counter { packetiser.old.counter ≡ next % 16 }
     requires null { AreNull frame.old }
     ensures packets { frame.new ≡ map (slot_packet packetiser.old.pid pieces.now slots.now)
@@ -137,8 +137,8 @@ fn fill(
 
 /// Puts null packets at the slots of pieces, from one up to another, into a frame.
 fn clear(slots: &[u64], next: usize, end: usize, from: u64, frame: &mut [[u8; PACKET_LENGTH]])
-    requires next { IsNext slots.now next from }
-    requires end { IsNext slots.now end (from + length frame.old) }
+    requires next { IsNextPlace slots.now next from }
+    requires end { IsNextPlace slots.now end (from + length frame.old) }
     requires elsewhere { AreNullElsewhere slots.now from frame.old }
     ensures length { length frame.new ≡ length frame.old }
     ensures null { AreNull frame.new }

@@ -7,7 +7,7 @@ ghost use Rattle.sub_base.specs.Endpoints.{AppendsPrefix};
 ghost use Rattle.stream_syntax.specs.TransportPackets.{null_packet as null_bytes};
 ghost use Rattle.slot_stream.specs.KeptPackets.{kept_packet, numbered, packets_from};
 ghost use Rattle.slot_stream.specs.SlotStream.{IsPiece};
-ghost use Rattle.slot_stream.specs.SlotWalk.{IsNext};
+ghost use Rattle.slot_stream.specs.SlotWalk.{IsNextPlace};
 
 use crate::piece::Piece;
 use command_text::{TextBuffer, flush, put};
@@ -25,13 +25,13 @@ pub struct KeptPackets {
 }
 
 impl Model for KeptPackets {
-    ghost use Rattle.slot_stream.specs.KeptPackets.{IsKept, Kept};
+    ghost use Rattle.slot_stream.specs.KeptPackets.{HaveRisingSlots, SlottedPackets};
 
-    ghost Value = { Kept };
+    ghost Value = { SlottedPackets };
 
     ghost view = { λ k. record { slots = k.slots.items; packets = k.packets.items } };
 
-    ghost invariant = { λ k. IsKept (record { slots = k.slots.items; packets = k.packets.items }) };
+    ghost invariant = { λ k. HaveRisingSlots (record { slots = k.slots.items; packets = k.packets.items }) };
 }
 
 impl KeptPackets {
@@ -116,10 +116,10 @@ impl KeptPackets {
         slot: u64,
     ) -> usize
         requires null { null.now ≡ null_bytes }
-        requires next { IsNext self.now.slots next slot }
+        requires next { IsNextPlace self.now.slots next slot }
         ensures puts { PutsOut (K.received sink.old) (K.received sink.new)
             buffer.old buffer.new (kept_packet self.now slot) }
-        ensures next { IsNext self.now.slots result (slot + 1) }
+        ensures next { IsNextPlace self.now.slots result (slot + 1) }
     {
         let slots = self.slots.as_slice();
         if next < slots.len() && slots[next] == slot {
@@ -141,9 +141,9 @@ fn put_packet<K: Sink>(sink: &mut K, buffer: &mut TextBuffer, packet: &[u8; PACK
 }
 
 /// How many of rising slots lie before one.
-pub(crate) fn first_from(slots: &[u64], from: u64) -> usize
+pub fn first_from(slots: &[u64], from: u64) -> usize
     requires rising { IsStrictlyIncreasing slots.now }
-    ensures next { IsNext slots.now result from }
+    ensures next { IsNextPlace slots.now result from }
 {
     slots.partition_point(|slot| *slot < from)
 }

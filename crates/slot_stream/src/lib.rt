@@ -15,7 +15,7 @@ mod stream;
 // What holds of the packets of slots.
 mod laws;
 
-pub use kept::KeptPackets;
+pub use kept::{KeptPackets, first_from};
 pub use laws::{later_pieces_leave_the_front, stream_begins_with_its_front};
 pub use piece::Piece;
 pub use pieces::push_units;

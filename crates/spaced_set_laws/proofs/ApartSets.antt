@@ -15,10 +15,10 @@ use Rattle.sub_base.proofs.ProfileLaws.{is_profile, is_step}
 use Rattle.schedule.specs.declared.fault.ScheduleFault.{ScheduleFault}
 use Rattle.schedule.specs.declared.fault.ScheduleFault.TheVariants.{Memory}
 use Rattle.schedule.specs.Packets.{no_load, load_of, longest_of, size_of, packets_of, payloads_of}
-use Rattle.schedule.specs.Refusals.{IsCause}
+use Rattle.schedule.specs.Refusals.{IsScheduleCause}
 use Rattle.schedule.specs.Slots.{shown_before, IsLoad}
 use Rattle.schedule.proofs.PacketLaws.{load_at, packets_before-all, packets_before-more, packets_before-none}
-use Rattle.spaced_set_laws.specs.Apart.{IsSmall, AreApart}
+use Rattle.spaced_set_laws.specs.Apart.{IsSmall, AreWellApart}
 use Rattle.spaced_set_laws.specs.Spaced.{AreSpaced, ticks_asked}
 use Rattle.spaced_set_laws.proofs.SpacedArrival.{not_refused}
 
@@ -79,7 +79,7 @@ time_at loads times i are below =
 -- there are 27,000 ticks between the origin or the time of the set before and that of a set
 time_between : (loads : List WriteLoad) (times : List ℕ) (origin i : ℕ)
     → map (λ load. load.load.pts) loads ≡ times
-    → AreApart origin times → i < length loads
+    → AreWellApart origin times → i < length loads
     → (origin + 27000 ≤ (load_of loads i).pts) × (shown_before loads i + 27000 ≤ (load_of loads i).pts)
 time_between loads times origin zero are apart below =
     let here = time_at loads times 0 are below in
@@ -95,7 +95,7 @@ time_between loads times origin (suc i) are apart below =
 
 -- small sets that are shown far apart are spaced
 pub small_spaced : (loads : List WriteLoad) (times : List ℕ) (pace : Pace) → All IsLoad loads → All IsSmall loads
-    → map (λ load. load.load.pts) loads ≡ times → AreApart pace.origin times → 1 ≤ pace.step
+    → map (λ load. load.load.pts) loads ≡ times → AreWellApart pace.origin times → 1 ≤ pace.step
     → pace.step ≤ LONGEST_STEP
     → 2000 ≤ pace.coded → AreSpaced loads pace
 small_spaced loads times pace each small are apart some step coded =
@@ -113,7 +113,7 @@ small_spaced loads times pace each small are apart some step coded =
 pub spaced_in_profile : (loads : List WriteLoad) (times : List ℕ) (origin : ℕ) (profile : Profile)
     → IsSending profile
     → All IsLoad loads → All IsSmall loads → map (λ load. load.load.pts) loads ≡ times
-    → AreApart origin times
+    → AreWellApart origin times
     → AreSpaced loads (pace_of origin profile)
 spaced_in_profile loads times origin profile sending each small are apart =
     let step = is_step profile sending in
@@ -125,7 +125,7 @@ spaced_in_profile loads times origin profile sending each small are apart =
 pub never_refused : (loads : List WriteLoad) (times : List ℕ) (origin : ℕ) (profile : Profile)
     (fault : ScheduleFault)
     → IsSending profile → All IsLoad loads → All IsSmall loads → map (λ load. load.load.pts) loads ≡ times
-    → AreApart origin times → IsCause loads (pace_of origin profile) fault → fault ≡ Memory
+    → AreWellApart origin times → IsScheduleCause loads (pace_of origin profile) fault → fault ≡ Memory
 never_refused loads times origin profile fault sending each small are apart =
     let spaced = spaced_in_profile loads times origin profile sending each small are apart in
     not_refused loads (pace_of origin profile) fault each spaced

@@ -8,10 +8,10 @@ use Rattle.sub_base.specs.declared.load.WriteLoad.{WriteLoad}
 use Rattle.sub_base.specs.declared.pace.Pace.{Pace}
 use Rattle.schedule.specs.declared.fault.ScheduleFault.{ScheduleFault}
 use Rattle.schedule.specs.declared.fault.ScheduleFault.TheVariants.{Memory, CodedFull, Late, SegmentFull}
-use Rattle.schedule.specs.Arrivals.{level_at}
+use Rattle.schedule.specs.Arrivals.{coded_level_at}
 use Rattle.schedule.specs.Packets.{load_of, packets_of}
-use Rattle.schedule.specs.Refusals.{IsCause}
-use Rattle.schedule.specs.Slots.{slot_of, done_of, shown_before, IsLoad}
+use Rattle.schedule.specs.Refusals.{IsScheduleCause}
+use Rattle.schedule.specs.Slots.{slot_of, set_done_at, shown_before, IsLoad}
 use Rattle.schedule.proofs.BufferLaws.{left-least}
 use Rattle.schedule.proofs.EarliestLaws.{arrived-most, hopeless}
 use Rattle.schedule.proofs.PacketLaws.{load_at, payloads-most, some_bytes, some_packets}
@@ -23,13 +23,13 @@ abbrev all_slots : List WriteLoad → Pace → List ℕ
 all_slots loads pace = row_slots loads pace (length loads)
 
 abbrev row_dones : List WriteLoad → Pace → List ℕ
-row_dones loads pace = map (done_of loads pace (all_slots loads pace)) (range_with_len 0 (length loads))
+row_dones loads pace = map (set_done_at loads pace (all_slots loads pace)) (range_with_len 0 (length loads))
 
 -- such a tick
 done_at : (loads : List WriteLoad) (pace : Pace) (i : ℕ) → i < length loads
-    → slice_index (row_dones loads pace) i ≡ done_of loads pace (all_slots loads pace) i
+    → slice_index (row_dones loads pace) i ≡ set_done_at loads pace (all_slots loads pace) i
 done_at loads pace i below =
-    get_or-map-range_with_len (done_of loads pace (all_slots loads pace)) 0 (length loads) i i 0 below (omega arith)
+    get_or-map-range_with_len (set_done_at loads pace (all_slots loads pace)) 0 (length loads) i i 0 below (omega arith)
 
 -- each set is done by its time
 done_early : (loads : List WriteLoad) (pace : Pace) (i : ℕ) → All IsLoad loads → AreSpaced loads pace
@@ -52,7 +52,7 @@ done_early loads pace i each spaced below =
 -- the buffer holds no more than the bytes of one set
 level_low : (loads : List WriteLoad) (pace : Pace) (i k : ℕ) → All IsLoad loads → AreSpaced loads pace
     → i < length loads → k < packets_of loads i
-    → level_at loads (length loads) pace (all_slots loads pace) (row_dones loads pace)
+    → coded_level_at loads (length loads) pace (all_slots loads pace) (row_dones loads pace)
     (slot_of loads (all_slots loads pace) i k) ≤ pace.coded
 level_low loads pace i k each spaced below within =
     let slots : List ℕ = all_slots loads pace in
@@ -95,7 +95,7 @@ arrive_in_time loads pace each spaced =
           ap (tick_of pace) (all.each i k below within),
           row_from loads pace i k spaced.step,
         );
-        sets = length-map-range_with_len (done_of loads pace (all_slots loads pace)) 0 (length loads);
+        sets = length-map-range_with_len (set_done_at loads pace (all_slots loads pace)) 0 (length loads);
         done = done_at loads pace;
         level = λ i k. level_low loads pace i k each spaced;
       };
@@ -104,7 +104,7 @@ arrive_in_time loads pace each spaced =
 
 -- a fault of theirs is want of memory
 pub not_refused : (loads : List WriteLoad) (pace : Pace) (fault : ScheduleFault) → All IsLoad loads
-    → AreSpaced loads pace → IsCause loads pace fault → fault ≡ Memory
+    → AreSpaced loads pace → IsScheduleCause loads pace fault → fault ≡ Memory
 not_refused loads pace Memory each spaced cause = refl
 not_refused loads pace (CodedFull set size) each spaced cause =
     absurd (omega (arith, cause.is_size, cause.full, spaced.fits set cause.among))

@@ -10,9 +10,9 @@ use Rattle.sub_base.specs.declared.profile.ProfileName.TheVariants.{Sd}
 use Rattle.schedule.specs.declared.fault.ScheduleFault.{ScheduleFault}
 use Rattle.schedule.specs.declared.fault.ScheduleFault.TheVariants.{Memory}
 use Rattle.schedule.specs.Packets.{no_load}
-use Rattle.schedule.specs.Refusals.{IsCause}
+use Rattle.schedule.specs.Refusals.{IsScheduleCause}
 use Rattle.schedule.specs.Slots.{IsLoad}
-use Rattle.spaced_set_laws.specs.Apart.{IsSmall, AreApart}
+use Rattle.spaced_set_laws.specs.Apart.{IsSmall, AreWellApart}
 use Rattle.spaced_set_laws.proofs.ApartSets.{never_refused}
 
 -- a set of one PES packet, shown then
@@ -35,7 +35,7 @@ small (suc zero) below = record { one = refl; size = omega arith; longest = omeg
 small (suc (suc i)) below = absurd (omega arith)
 
 -- their times are far apart
-apart : AreApart 0 (180000 ∷ 207000 ∷ [])
+apart : AreWellApart 0 (180000 ∷ 207000 ∷ [])
 apart = record { first = λ _. omega arith; next = next }
   where
     next : (i : ℕ) → i + 1 < 2
@@ -44,7 +44,7 @@ apart = record { first = λ _. omega arith; next = next }
     next (suc i) below = absurd (omega arith)
 
 -- they are not refused
-two_are_sent : (fault : ScheduleFault) → IsCause two_sets (pace_of 0 (profile_of Sd)) fault → fault ≡ Memory
+two_are_sent : (fault : ScheduleFault) → IsScheduleCause two_sets (pace_of 0 (profile_of Sd)) fault → fault ≡ Memory
 two_are_sent fault =
     never_refused two_sets (180000 ∷ 207000 ∷ []) 0 (profile_of Sd) fault ((Sd, refl), refl)
     (All-from_get_or IsLoad two_sets no_load each) (All-from_get_or IsSmall two_sets no_load small) refl apart

@@ -10,6 +10,6 @@ pub record IsSmall (load : WriteLoad) : Type 0 where
   pub painted : load.load.painted ≤ 144
 
 -- each of these times is at least 27,000 ticks after the one before, and the first after the origin
-pub record AreApart (origin : ℕ) (times : List ℕ) : Type 0 where
+pub record AreWellApart (origin : ℕ) (times : List ℕ) : Type 0 where
   pub first : 0 < length times → origin + 27000 ≤ slice_index times 0
   pub next : (i : ℕ) → i + 1 < length times → slice_index times i + 27000 ≤ slice_index times (i + 1)

@@ -5,11 +5,11 @@ ghost use Rattle.sub_base.specs.Pace.{IsSending, pace_of};
 ghost use Rattle.sub_base.specs.declared.load.WriteLoad.{WriteLoad};
 ghost use Rattle.sub_base.specs.declared.pace.Pace.{Pace};
 ghost use Rattle.sub_base.specs.declared.profile.Profile.{Profile};
-ghost use Rattle.schedule.specs.Refusals.{IsCause};
+ghost use Rattle.schedule.specs.Refusals.{IsScheduleCause};
 ghost use Rattle.schedule.specs.Slots.{IsLoad};
 ghost use Rattle.schedule.specs.declared.fault.ScheduleFault.{ScheduleFault};
 ghost use Rattle.schedule.specs.declared.fault.ScheduleFault.TheVariants.{Memory};
-ghost use Rattle.spaced_set_laws.specs.Apart.{AreApart, IsSmall};
+ghost use Rattle.spaced_set_laws.specs.Apart.{AreWellApart, IsSmall};
 ghost use Rattle.spaced_set_laws.specs.Spaced.{AreSpaced, ArriveInTime};
 
 /// Spaced sets can arrive such that the buffer never overflows and each is done by its time.
@@ -21,7 +21,7 @@ pub fn spaced_sets_arrive_in_time()
 /// So a schedule of spaced sets is refused for want of memory alone.
 pub fn spaced_sets_are_never_refused()
     ensures { (loads : List WriteLoad) (pace : Pace) (fault : ScheduleFault)
-        → All IsLoad loads → AreSpaced loads pace → IsCause loads pace fault
+        → All IsLoad loads → AreSpaced loads pace → IsScheduleCause loads pace fault
         → fault ≡ Memory }
 {}
 
@@ -30,11 +30,11 @@ pub fn spaced_sets_are_never_refused()
 pub fn small_sets_apart_are_spaced()
     ensures spaced { (loads : List WriteLoad) (times : List ℕ) (origin : ℕ) (profile : Profile)
         → IsSending profile → All IsLoad loads → All IsSmall loads
-        → map (λ load. load.load.pts) loads ≡ times → AreApart origin times
+        → map (λ load. load.load.pts) loads ≡ times → AreWellApart origin times
         → AreSpaced loads (pace_of origin profile) }
     ensures never_refused { (loads : List WriteLoad) (times : List ℕ) (origin : ℕ)
         (profile : Profile) (fault : ScheduleFault)
         → IsSending profile → All IsLoad loads → All IsSmall loads
-        → map (λ load. load.load.pts) loads ≡ times → AreApart origin times
-        → IsCause loads (pace_of origin profile) fault → fault ≡ Memory }
+        → map (λ load. load.load.pts) loads ≡ times → AreWellApart origin times
+        → IsScheduleCause loads (pace_of origin profile) fault → fault ≡ Memory }
 {}

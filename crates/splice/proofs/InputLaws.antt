@@ -1,4 +1,5 @@
 -- A stream that is gone through as it is read, from the packets of one read to those of the next.
+use Rattle.decoder_model.specs.Received.{Reception}
 use Rattle.std.proofs.Common.{◌≡◌, ◌∙◌, ℕ, suc, ◌+◌, ◌*◌, ◌/◌, ◌^◌, ◌<◌, ◌≤◌, ◌⊎◌, inl, inr, Bool, true, false, cond, List, [], ◌∷◌, ◌++◌, length, take, drop, Option, Some, None, append_assoc, length-append, refl, sym, ap, subst, arith}
 use Rattle.std.specs.Prelude.{nat_lt}
 use Rattle.std.specs.Simd.{first_chunks}
@@ -12,12 +13,12 @@ use Rattle.sub_base.specs.declared.faults.ReadAllFault.{ReadAllFault}
 use Rattle.sub_base.specs.declared.faults.ReadAllFault.TheVariants as read
 use Rattle.sub_base.proofs.TransferSteps.{HasRisen-since}
 use Rattle.packet_source.specs.InHand.{InHand, nothing_read, read_count, whole_packets}
-use Rattle.packet_source.specs.Packets.{GoesOn, IsStreamEnd, Stands, stream_length}
+use Rattle.packet_source.specs.Packets.{GivesMore, IsStreamEnd, HasGivenInHand, stream_length}
 use Rattle.packet_source.specs.declared.limits.TheConstants.{STREAM_LIMIT}
 use Rattle.packet_source.specs.declared.stream_end.StreamEnd.{StreamEnd}
 use Rattle.packet_source.specs.declared.stream_end.StreamEnd.TheVariants as stream
 use Rattle.packet_source.proofs.GaveLaws.{bytes_of, AreLong, length-whole_packets, stream_length-more}
-use Rattle.set_receiver.specs.Receiving.{Receiving, Reception}
+use Rattle.set_receiver.specs.Receiving.{SetReceiving}
 use Rattle.splice.specs.Private.Inputs.{HasReadThrough, IsInput, IsInputCause, end_fault}
 use Rattle.splice.specs.Private.Surveyed.{EndsGone, GoesThrough, IsGone, IsReady}
 use Rattle.splice.specs.declared.found.Survey.{Survey}
@@ -60,16 +61,16 @@ joined_packets packets rest each short =
 
 -- the packets before those in hand were gone through, and that came to this
 pub record HasCome (made : Reception) (part : Part) (before now : Supplied) (start end : Joined)
-    (receiving : Receiving) (survey : Survey) (hand : InHand) : Type 0 where
+    (receiving : SetReceiving) (survey : Survey) (hand : InHand) : Type 0 where
   pub packets : List (List ℕ)
-  pub source : Stands before now hand packets
+  pub source : HasGivenInHand before now hand packets
   pub gone : IsGone made part packets receiving start end survey
 
 -- the packets in hand, too
 pub record HasWalked (made : Reception) (part : Part) (before now : Supplied) (start end : Joined)
-    (receiving : Receiving) (survey : Survey) (hand : InHand) : Type 0 where
+    (receiving : SetReceiving) (survey : Survey) (hand : InHand) : Type 0 where
   pub packets : List (List ℕ)
-  pub source : Stands before now hand packets
+  pub source : HasGivenInHand before now hand packets
   pub gone : IsGone made part (packets ++ whole_packets hand.bytes) receiving start end survey
 
 -- nothing was read, which is within the limit
@@ -77,8 +78,8 @@ pub nothing_within : (hand : InHand) → hand ≡ nothing_read → read_count ha
 nothing_within hand nothing = subst (λ (h : InHand). read_count h ≤ STREAM_LIMIT) (sym nothing) (omega arith)
 
 -- before the first read
-pub nothing_walked : (made : Reception) (part : Part) (before : Supplied) (start : Joined) (receiving : Receiving)
-    (survey : Survey) (hand : InHand) → hand ≡ nothing_read → ((now : Supplied) → Stands now now hand [])
+pub nothing_walked : (made : Reception) (part : Part) (before : Supplied) (start : Joined) (receiving : SetReceiving)
+    (survey : Survey) (hand : InHand) → hand ≡ nothing_read → ((now : Supplied) → HasGivenInHand now now hand [])
     → IsGone made part [] receiving start start survey
     → HasWalked made part before before start start receiving survey hand
 nothing_walked made part before start receiving survey hand nothing source gone = record {
@@ -90,8 +91,8 @@ nothing_walked made part before start receiving survey hand nothing source gone 
 
 module _ {made : Reception} {part : Part} {before : Supplied} {start : Joined} where
   -- the packets in hand were given up, and more was read
-  pub walked_on : (mid now : Supplied) (end : Joined) (receiving : Receiving) (survey : Survey) (old new : InHand)
-      → HasWalked made part before mid start end receiving survey old → GoesOn mid now old new
+  pub walked_on : (mid now : Supplied) (end : Joined) (receiving : SetReceiving) (survey : Survey) (old new : InHand)
+      → HasWalked made part before mid start end receiving survey old → GivesMore mid now old new
       → HasCome made part before now start end receiving survey new
   walked_on mid now end receiving survey old new walked goes = record {
     packets = walked.packets ++ whole_packets old.bytes;
@@ -100,7 +101,7 @@ module _ {made : Reception} {part : Part} {before : Supplied} {start : Joined} w
   }
 
   -- the packets in hand were gone through
-  pub come_further : (now : Supplied) (between end : Joined) (old new : Receiving) (was is : Survey) (hand : InHand)
+  pub come_further : (now : Supplied) (between end : Joined) (old new : SetReceiving) (was is : Survey) (hand : InHand)
       (first : ℕ) (more : List (List ℕ)) → HasCome made part before now start between old was hand
       → first ≡ hand.first → more ≡ whole_packets hand.bytes
       → GoesThrough part first more old new was is between end
@@ -114,13 +115,13 @@ module _ {made : Reception} {part : Part} {before : Supplied} {start : Joined} w
   }
 
   -- no set waits in the receiver, unless a packet was refused
-  pub come_ready : (now : Supplied) (end : Joined) (receiving : Receiving) (survey : Survey) (hand : InHand)
+  pub come_ready : (now : Supplied) (end : Joined) (receiving : SetReceiving) (survey : Survey) (hand : InHand)
       → HasCome made part before now start end receiving survey hand → IsReady survey receiving
   come_ready now end receiving (Refused packet fault) hand come = tt
   come_ready now end receiving (Whole found) hand come = come.gone.none
 
   -- the stream was read to its end, within the limit
-  pub come_to_end : (now : Supplied) (end : Joined) (receiving : Receiving) (survey : Survey) (hand : InHand)
+  pub come_to_end : (now : Supplied) (end : Joined) (receiving : SetReceiving) (survey : Survey) (hand : InHand)
       (first : ℕ) (ended : StreamEnd) (mid : Supplied)
       → HasCome made part before now start end receiving survey hand → first ≡ hand.first
       → IsStreamEnd mid now hand ended → end_fault first ended ≡ None
@@ -153,7 +154,8 @@ past_counted : (start now long : ℕ) → now ≡ counted start long → SPLICE_
 past_counted start now long given past = grind arith
 
 -- the source gave more than the limit
-pub given_past : (before now : Supplied) (hand : InHand) (packets : List (List ℕ)) → Stands before now hand packets
+pub given_past : (before now : Supplied) (hand : InHand) (packets : List (List ℕ))
+    → HasGivenInHand before now hand packets
     → SPLICE_LIMIT < read_count hand → HasRisenPast SPLICE_LIMIT before.given now.given
 given_past before now hand packets stands past =
     past_counted before.given now.given (stream_length packets hand.bytes) stands.gave.count
@@ -163,7 +165,7 @@ some_fault : (a b : ReadAllFault) → Some a ≡ Some b → b ≡ a
 some_fault a b e = cc
 
 pub ended_cause : (before mid now : Supplied) (hand : InHand) (packets : List (List ℕ)) (first : ℕ)
-    (ended : StreamEnd) (fault : ReadAllFault) → Stands before now hand packets → before.faults ≤ mid.faults
+    (ended : StreamEnd) (fault : ReadAllFault) → HasGivenInHand before now hand packets → before.faults ≤ mid.faults
     → first ≡ hand.first → IsStreamEnd mid now hand ended → end_fault first ended ≡ Some fault
     → IsInputCause before now fault
 ended_cause before mid now hand packets first (stream.Whole cut) fault stands kept first_is is faulty =
@@ -209,7 +211,7 @@ hand_few hand count first packets count_is within first_is packets_are =
 -- ---- the whole stream
 
 -- its packets were gone through, and what came ready at their end was taken
-pub is_input : (own made : Reception) (part : Part) (before now : Supplied) (receiving : Receiving)
+pub is_input : (own made : Reception) (part : Part) (before now : Supplied) (receiving : SetReceiving)
     (start between end : Joined) (was is : Survey) → own ≡ made
     → HasReadThrough own part before now receiving start between was → EndsGone part receiving was is between end
     → IsInput made part before now start end is

@@ -8,13 +8,14 @@ use Rattle.std.proofs.lemmas.List.Elements.{All-push}
 use Rattle.stream_syntax.specs.TransportPackets.{packet_fault}
 use Rattle.decoder_model.specs.Arrivals.{arrivals_at, arrivals_of, packets_taken}
 use Rattle.decoder_model.specs.Readings.{Reading}
+use Rattle.decoder_model.specs.Received.{Reception}
 use Rattle.decoder_model.specs.Sets.{Delivery, lost, whole, refused, runs_of}
 use Rattle.display_sets.specs.Gathered.{ReadySet, ready_sets}
 use Rattle.display_sets.specs.Standing.{AreReady}
 use Rattle.sent_sets.specs.RawSets.{RawSet}
 use Rattle.set_reader.specs.Collecting.{losses}
-use Rattle.set_receiver.specs.Receiving.{IsSame, Receiving, Reception, Stands, reception}
-use Rattle.set_receiver.specs.Taking.{AreBytes}
+use Rattle.set_receiver.specs.Receiving.{IsSameReception, SetReceiving, HasBeenFed, reception}
+use Rattle.set_receiver.specs.Taking.{AreAllBytes}
 use Rattle.set_receiver.proofs.PastLaws.{losses_read}
 use Rattle.set_receiver.proofs.TakenSets.{are_losses}
 use Rattle.splice.specs.KeptSets.{kept_among}
@@ -45,7 +46,7 @@ or_false false = refl
 
 -- something is lost of what was fed exactly where a loss was given
 given_loss : (made : Reception) (ended : Bool) (fed : List (List ℕ)) (given : List (Delivery (List ℕ)))
-    (receiving : Receiving) → reception receiving ≡ made → Stands ended fed given receiving
+    (receiving : SetReceiving) → reception receiving ≡ made → HasBeenFed ended fed given receiving
     → list_any is_lost (arrivals_of made.profile.coded made.pid made.pages fed) ≡ list_any is_loss given
 given_loss made ended fed given receiving own stands =
     let gathered = receiving.collecting.sets in
@@ -116,15 +117,15 @@ some_more n = grind (arith, nat_tests)
 found_lost : (n place : ℕ) (was : Found) → found_with (suc n) place was ≡ lost_after place was
 found_lost n place was = ap (λ (b : Bool). cond b was (lost_after place was)) (some_more n)
 
-module _ (part : Part) (old mid : Receiving) (packet : List ℕ) (place count : ℕ) (was : Found) (start : Joined)
-    (bytes : AreBytes packet) (few : place < 2 ^ 26)
+module _ (part : Part) (old mid : SetReceiving) (packet : List ℕ) (place count : ℕ) (was : Found) (start : Joined)
+    (bytes : AreAllBytes packet) (few : place < 2 ^ 26)
     (none : packet_fault (reception old).pid packet ≡ None)
-    (feeds : (fed : List (List ℕ)) (given : List (Delivery (List ℕ))) → Stands false fed given old
-    → Stands false (fed ++ packet ∷ []) (given ++ losses count) mid)
-    (same : IsSame old mid) where
+    (feeds : (fed : List (List ℕ)) (given : List (Delivery (List ℕ))) → HasBeenFed false fed given old
+    → HasBeenFed false (fed ++ packet ∷ []) (given ++ losses count) mid)
+    (same : IsSameReception old mid) where
   first_lost : (made : Reception) (packets : List (List ℕ)) (given : List (Delivery (List ℕ))) (n : ℕ)
-      → reception old ≡ made → length packets ≡ place → Stands false packets given old
-      → Stands false (packets ++ packet ∷ []) (given ++ losses (suc n)) mid → IsLossless made packets
+      → reception old ≡ made → length packets ≡ place → HasBeenFed false packets given old
+      → HasBeenFed false (packets ++ packet ∷ []) (given ++ losses (suc n)) mid → IsLossless made packets
       → IsFirstLost made (packets ++ packet ∷ []) place
   first_lost made packets given n own many stands fed lossless = record {
     before = packets;
@@ -149,8 +150,8 @@ module _ (part : Part) (old mid : Receiving) (packet : List ℕ) (place count : 
       or_true false = refl
 
   still_lossless : (made : Reception) (packets : List (List ℕ)) (given : List (Delivery (List ℕ)))
-      → reception old ≡ made → Stands false packets given old
-      → Stands false (packets ++ packet ∷ []) given mid → IsLossless made packets
+      → reception old ≡ made → HasBeenFed false packets given old
+      → HasBeenFed false (packets ++ packet ∷ []) given mid → IsLossless made packets
       → IsLossless made (packets ++ packet ∷ [])
   still_lossless made packets given own stands fed lossless =
       given_loss made false (packets ++ packet ∷ []) given mid (same ∙ own) fed
@@ -159,14 +160,14 @@ module _ (part : Part) (old mid : Receiving) (packet : List ℕ) (place count : 
   few_more : (packets : List (List ℕ)) → length packets ≡ place → length (packets ++ packet ∷ []) ≤ 2 ^ 26
   few_more packets many = omega (arith, many, few, length-append packets (packet ∷ []))
 
-  fed_by : (n : ℕ) → ((fed : List (List ℕ)) (given : List (Delivery (List ℕ))) → Stands false fed given old
-      → Stands false (fed ++ packet ∷ []) (given ++ losses n) mid)
+  fed_by : (n : ℕ) → ((fed : List (List ℕ)) (given : List (Delivery (List ℕ))) → HasBeenFed false fed given old
+      → HasBeenFed false (fed ++ packet ∷ []) (given ++ losses n) mid)
       → (made : Reception) (earlier : List RawSet) (packets : List (List ℕ)) → length packets ≡ place
       → HasFound made part earlier false packets old was start
       → HasFound made part earlier false (packets ++ packet ∷ []) mid (found_with n place was) start
   fed_by zero fed made earlier packets many so =
-      let stands : Stands false (packets ++ packet ∷ []) so.has.given mid =
-      subst (λ (all : List (Delivery (List ℕ))). Stands false (packets ++ packet ∷ []) all mid)
+      let stands : HasBeenFed false (packets ++ packet ∷ []) so.has.given mid =
+      subst (λ (all : List (Delivery (List ℕ))). HasBeenFed false (packets ++ packet ∷ []) all mid)
       (append-nil so.has.given) (fed packets so.has.given so.has.stands) in
       record {
         own = same ∙ so.own;
@@ -174,7 +175,7 @@ module _ (part : Part) (old mid : Receiving) (packet : List ℕ) (place count : 
         few = few_more packets many;
         past = so.past;
         has = record {
-          bytes = All-push AreBytes packets packet so.has.bytes bytes;
+          bytes = All-push AreAllBytes packets packet so.has.bytes bytes;
           given = so.has.given;
           stands = stands;
           read = so.has.read;
@@ -194,7 +195,7 @@ module _ (part : Part) (old mid : Receiving) (packet : List ℕ) (place count : 
         few = few_more packets many;
         past = read.more ++ so.past;
         has = record {
-          bytes = All-push AreBytes packets packet so.has.bytes bytes;
+          bytes = All-push AreAllBytes packets packet so.has.bytes bytes;
           given = so.has.given ++ losses (suc n);
           stands = stands;
           read = read.read;
@@ -206,7 +207,7 @@ module _ (part : Part) (old mid : Receiving) (packet : List ℕ) (place count : 
       })
 
   -- a packet was taken, with its sets
-  pub packet_taken : (new : Receiving) (half is : Found) (end : Joined) → half ≡ found_with count place was
+  pub packet_taken : (new : SetReceiving) (half is : Found) (end : Joined) → half ≡ found_with count place was
       → TakesSets part mid new half is start end → TakesPacket part packet place old new was is start end
   packet_taken new half is end found sets = record {
     goes = λ made earlier packets many. λ so.
@@ -216,18 +217,18 @@ module _ (part : Part) (old mid : Receiving) (packet : List ℕ) (place count : 
   }
 
 -- a packet was passed by, which brings nothing
-pub passed_by : (part : Part) (receiving : Receiving) (packet : List ℕ) (place : ℕ) (found : Found) (joined : Joined)
-    → AreBytes packet → place < 2 ^ 26 → packet_fault (reception receiving).pid packet ≡ None
-    → ((fed : List (List ℕ)) (given : List (Delivery (List ℕ))) → Stands false fed given receiving
-    → Stands false (fed ++ packet ∷ []) given receiving)
+pub passed_by : (part : Part) (receiving : SetReceiving) (packet : List ℕ) (place : ℕ) (found : Found) (joined : Joined)
+    → AreAllBytes packet → place < 2 ^ 26 → packet_fault (reception receiving).pid packet ≡ None
+    → ((fed : List (List ℕ)) (given : List (Delivery (List ℕ))) → HasBeenFed false fed given receiving
+    → HasBeenFed false (fed ++ packet ∷ []) given receiving)
     → TakesPacket part packet place receiving receiving found found joined joined
 passed_by part receiving packet place found joined bytes few none goes_on =
     packet_taken part receiving receiving packet place 0 found joined bytes few none
     (λ fed given stands.
-    subst (λ (all : List (Delivery (List ℕ))). Stands false (fed ++ packet ∷ []) all receiving)
+    subst (λ (all : List (Delivery (List ℕ))). HasBeenFed false (fed ++ packet ∷ []) all receiving)
     (sym (append-nil given)) (goes_on fed given stands))
     refl receiving found found joined refl (record { goes = λ made earlier ended packets. λ so. so })
 
 -- the bytes of a packet
-pub bytes_of : (packet : List ℕ) → ((k : ℕ) → get_or packet k 0 < 256) → AreBytes packet
+pub bytes_of : (packet : List ℕ) → ((k : ℕ) → get_or packet k 0 < 256) → AreAllBytes packet
 bytes_of packet small k d within = omega (arith, small k, get_or_default packet k d 0 within)

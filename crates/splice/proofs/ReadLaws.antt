@@ -8,13 +8,14 @@ use Rattle.std.proofs.lemmas.List.Elements.{filter-append}
 use Rattle.sub_base.specs.declared.profile.Profile.{Profile}
 use Rattle.decoder_model.specs.Kept.{last_time, lifted_behind}
 use Rattle.decoder_model.specs.Readings.{AreReadings, Reading}
+use Rattle.decoder_model.specs.Received.{Reception}
 use Rattle.decoder_model.specs.Sets.{Delivery, whole}
 use Rattle.decoder_model.specs.Verdict.{if_kept, verdict_of}
 use Rattle.decoder_model.specs.declared.set_end.SetEnd.{SetEnd}
 use Rattle.decoder_model.specs.declared.set_end.SetEnd.TheVariants.{Shown, Waiting, Broken, NotLater}
 use Rattle.decoder_model.specs.declared.set_fault.SetFault.TheVariants.{NoPage}
 use Rattle.sent_sets.specs.RawSets.{RawSet}
-use Rattle.set_receiver.specs.Receiving.{IsSame, Receiving, Reception}
+use Rattle.set_receiver.specs.Receiving.{IsSameReception, SetReceiving}
 use Rattle.set_receiver.specs.Taking.{HasPast}
 use Rattle.splice.specs.SplicedSets.{ArePaintedIn, begin_of, is_before, moved}
 use Rattle.splice.specs.StreamTests.{IsLookedAt}
@@ -33,11 +34,11 @@ use Rattle.splice.specs.declared.prepared.Placed.{Placed}
 
 -- ---- several steps
 
-pub takes_none : (part : Part) (receiving : Receiving) (found : Found) (joined : Joined)
+pub takes_none : (part : Part) (receiving : SetReceiving) (found : Found) (joined : Joined)
     → TakesSets part receiving receiving found found joined joined
 takes_none part receiving found joined = record { goes = λ made earlier ended packets. λ so. so }
 
-pub takes_both : (part : Part) (old mid new : Receiving) (was half is : Found) (start between end : Joined)
+pub takes_both : (part : Part) (old mid new : SetReceiving) (was half is : Found) (start between end : Joined)
     → TakesSets part old mid was half start between → TakesSets part mid new half is between end
     → TakesSets part old new was is start end
 takes_both part old mid new was half is start between end one other = record {
@@ -71,7 +72,7 @@ bad_stays made part earlier packets past one before after found joined (Unshown 
 bad_stays made part earlier packets past one before after found joined (Lost packet) bad so = so
 
 -- a set is passed over
-pub passed_over : (part : Part) (old new : Receiving) (found : Found) (joined : Joined) → IsSame old new
+pub passed_over : (part : Part) (old new : SetReceiving) (found : Found) (joined : Joined) → IsSameReception old new
     → ((ended : Bool) (packets : List (List ℕ)) (past : List (Delivery Reading)) → HasPast ended packets past old
     → (one : Delivery Reading) × HasPast ended packets (one ∷ past) new)
     → is_good found.finding ≡ false → TakesSets part old new found found joined joined

@@ -11,7 +11,7 @@ use Rattle.sub_base.specs.declared.pace.Pace.{Pace}
 use Rattle.stream_syntax.specs.TransportPackets.{adaptation_field, packet_count}
 use Rattle.decoder_model.proofs.Lists.{all-append}
 use Rattle.schedule.specs.Packets.{no_load}
-use Rattle.schedule.specs.Refusals.{IsCause}
+use Rattle.schedule.specs.Refusals.{IsScheduleCause}
 use Rattle.schedule.specs.Slots.{IsOnTime, Timetable}
 use Rattle.schedule.specs.declared.fault.ScheduleFault.{ScheduleFault}
 use Rattle.schedule.specs.declared.fault.ScheduleFault.TheVariants as schedule
@@ -20,7 +20,7 @@ use Rattle.sent_sets.specs.SentStream.{AreSizedAs}
 use Rattle.sent_sets.proofs.PacketCounts.{count_pieces}
 use Rattle.slot_stream.specs.SlotStream.{Piece, all_pieces, no_piece, packet_at, packet_of, piece_of, place_from, slot_count, slot_packet, stream_of}
 use Rattle.slot_stream.proofs.LaidPackets.{joined_map}
-use Rattle.splice.specs.SpliceOutcome.{IsUnscheduled}
+use Rattle.splice.specs.SpliceOutcome.{IsSplicedUnscheduled}
 use Rattle.splice.specs.SplicedSets.{IsLoadOf, Streams, splice_pace, spliced_sets}
 use Rattle.splice.specs.SplicedStream.{CanBeJoined, IsSplicedTo}
 use Rattle.splice.specs.Private.JoinedSets.{AreCut, HaveRoom, IsJoinedOf}
@@ -203,12 +203,12 @@ module _ (splicing : Splicing) (streams : Streams) (joined : Joined) (table : Ti
 module _ (splicing : Splicing) (streams : Streams) (joined : Joined) (can : CanBeJoined splicing streams)
     (is : IsJoinedOf (spliced_sets splicing streams) joined) (before now : Received)
     (nothing : WroteNothing before now) where
-  unscheduled_for : (fault : ScheduleFault) → IsCause joined.loads.items (splice_pace splicing) fault
-      → (fault ≡ schedule.Memory → ⊥) → IsUnscheduled splicing streams fault
+  unscheduled_for : (fault : ScheduleFault) → IsScheduleCause joined.loads.items (splice_pace splicing) fault
+      → (fault ≡ schedule.Memory → ⊥) → IsSplicedUnscheduled splicing streams fault
   unscheduled_for fault cause found =
       record { joined = can; loads = joined.loads.items; asked = is.asked; cause = cause; found = found }
 
-  pub no_slots : (fault : ScheduleFault) → IsCause joined.loads.items (splice_pace splicing) fault
+  pub no_slots : (fault : ScheduleFault) → IsScheduleCause joined.loads.items (splice_pace splicing) fault
       → IsSendEnd splicing streams before now (unscheduled fault)
   no_slots schedule.Memory cause = nothing
   no_slots (schedule.CodedFull set size) cause =

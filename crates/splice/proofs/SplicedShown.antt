@@ -15,8 +15,8 @@ use Rattle.decoder_model.specs.declared.pages.Pages.{Pages}
 use Rattle.decoder_model.proofs.Lists.{all-append}
 use Rattle.decoder_model.proofs.NearTimes.{AreNear, near_kept}
 use Rattle.decoder_model.proofs.ReceivedSegments.{IsCounted, DeliveryHas, received_segments}
+use Rattle.decoder_model.specs.Received.{Reception, sets_received}
 use Rattle.sent_sets.specs.RawSets.{RawSet}
-use Rattle.set_receiver.specs.Receiving.{Reception, sets_received}
 use Rattle.splice.specs.KeptSets.{kept_sets}
 use Rattle.splice.specs.SplicedSets.{Streams, first_reception, second_reception, is_before, begin_of, moved, spliced, spliced_sets}
 use Rattle.splice.specs.SplicedStream.{HasDistance}

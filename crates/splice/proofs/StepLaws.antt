@@ -10,6 +10,7 @@ use Rattle.decoder_model.specs.Faults.{contents_in}
 use Rattle.decoder_model.specs.Kept.{lifted_time}
 use Rattle.decoder_model.specs.Painting.{painting_by, set_load, set_painting}
 use Rattle.decoder_model.specs.Readings.{AreDeliveriesRead, IsDeliveryRead, Reading}
+use Rattle.decoder_model.specs.Received.{Reception, sets_received}
 use Rattle.decoder_model.specs.Sets.{Delivery, lost, whole, refused}
 use Rattle.decoder_model.specs.Verdict.{verdict_of}
 use Rattle.decoder_model.specs.declared.set_end.SetEnd.{SetEnd}
@@ -18,8 +19,8 @@ use Rattle.display_sets.specs.Gathered.{ReadySet}
 use Rattle.display_sets.specs.Standing.{IsFirst, IsReady}
 use Rattle.reading_laws.proofs.PacketsRead.{packets_read}
 use Rattle.sent_sets.specs.RawSets.{RawSet}
-use Rattle.set_receiver.specs.Receiving.{IsNext, IsSame, Receiving, Reception, Stands, reception, sets_received}
-use Rattle.set_receiver.specs.Taking.{HasNext, HasPast}
+use Rattle.set_receiver.specs.Receiving.{IsNextReceived, IsSameReception, SetReceiving, HasBeenFed, reception}
+use Rattle.set_receiver.specs.Taking.{HasNextReceived, HasPast}
 use Rattle.set_receiver.proofs.PastLaws.{taken_past}
 use Rattle.set_receiver.proofs.TakenSets.{next_read, read_more}
 use Rattle.splice.specs.KeptSets.{kept_among, set_at}
@@ -67,12 +68,12 @@ read_long (delivery ∷ given) (one ∷ past) are = ap suc (read_long given past
 
 -- the set that was taken, as it is handed over and as it is read, and what became of it
 record IsTakenNext (part : Part) (begin : Option ℕ) (next : Prepared) (made : Reception) (ended : Bool)
-    (packets : List (List ℕ)) (past : List (Delivery Reading)) (given : List (Delivery (List ℕ))) (new : Receiving)
+    (packets : List (List ℕ)) (past : List (Delivery Reading)) (given : List (Delivery (List ℕ))) (new : SetReceiving)
     (end : SetEnd) : Type 0 where
   delivery : Delivery (List ℕ)
   one : Delivery Reading
   is : IsDeliveryRead delivery one
-  stands : Stands ended packets (given ++ delivery ∷ []) new
+  stands : HasBeenFed ended packets (given ++ delivery ∷ []) new
   read : AreDeliveriesRead (reverse (given ++ delivery ∷ [])) (one ∷ past)
   verdict : Some end ≡ verdict_of made.profile made.anchor past one
   load : Some new.load ≡ set_load made.profile made.anchor past one
@@ -264,30 +265,30 @@ good_one made part earlier packets past before was start fin delivery one next e
 
 -- ---- a set that is taken
 
-module _ (part : Part) (old new : Receiving) (was : Found) (start fin : Joined) (next : Prepared) (end : SetEnd)
+module _ (part : Part) (old new : SetReceiving) (was : Found) (start fin : Joined) (next : Prepared) (end : SetEnd)
     (lifted : Option ℕ) (ready : Option ReadySet) (some : IsSome ready)
-    (first : (fed : List (List ℕ)) (ended : Bool) (given : List (Delivery (List ℕ))) → Stands ended fed given old
+    (first : (fed : List (List ℕ)) (ended : Bool) (given : List (Delivery (List ℕ))) → HasBeenFed ended fed given old
     → IsFirst (sets_received (reception old) ended fed) given ready)
     (lifts : (fed : List (List ℕ)) (ended : Bool) (given rest : List (Delivery (List ℕ)))
     (delivery : Delivery (List ℕ)) (past : List (Delivery Reading)) (one : Delivery Reading)
-    → IsNext ended fed given delivery rest old → AreDeliveriesRead (reverse given) past
+    → IsNextReceived ended fed given delivery rest old → AreDeliveriesRead (reverse given) past
     → IsDeliveryRead delivery one → lifted ≡ lifted_time (reception old).anchor past one)
     (prepares : (delivery : Delivery (List ℕ)) (set : ReadySet) → ready ≡ Some set → IsReady delivery set
     → IsPreparedOf part was.begin lifted delivery next)
     (takes : (ended : Bool) (packets : List (List ℕ)) (given rest : List (Delivery (List ℕ)))
-    (delivery : Delivery (List ℕ)) → IsNext ended packets given delivery rest old
-    → Stands ended packets (given ++ delivery ∷ []) new)
+    (delivery : Delivery (List ℕ)) → IsNextReceived ended packets given delivery rest old
+    → HasBeenFed ended packets (given ++ delivery ∷ []) new)
     (answers : (ended : Bool) (packets : List (List ℕ)) (given rest : List (Delivery (List ℕ)))
     (delivery : Delivery (List ℕ)) (past : List (Delivery Reading)) (one : Delivery Reading)
-    → IsNext ended packets given delivery rest old → AreDeliveriesRead (reverse given) past
+    → IsNextReceived ended packets given delivery rest old → AreDeliveriesRead (reverse given) past
     → IsDeliveryRead delivery one
     → Some end ≡ verdict_of (reception old).profile (reception old).anchor past one)
     (loads : (ended : Bool) (packets : List (List ℕ)) (given rest : List (Delivery (List ℕ)))
     (delivery : Delivery (List ℕ)) (past : List (Delivery Reading)) (one : Delivery Reading)
-    → IsNext ended packets given delivery rest old → AreDeliveriesRead (reverse given) past
+    → IsNextReceived ended packets given delivery rest old → AreDeliveriesRead (reverse given) past
     → IsDeliveryRead delivery one
     → Some new.load ≡ set_load (reception old).profile (reception old).anchor past one)
-    (same : IsSame old new) (good : is_good was.finding ≡ true) (cut : cut_of part < 2 ^ 34)
+    (same : IsSameReception old new) (good : is_good was.finding ≡ true) (cut : cut_of part < 2 ^ 34)
     (short : new.load.painted < 2 ^ 62)
     (put : is_good (found_after part next.glimpse end was).finding ≡ true
     → IsPut next.placed new.load.painted start fin)
@@ -300,9 +301,9 @@ module _ (part : Part) (old new : Receiving) (was : Found) (start fin : Joined) 
       let pick =
       picked (sets_received made ended packets) has.given ready some (first packets ended has.given has.stands)
       in
-      let all = packets_read made.profile made.pid made.pages ended packets has.bytes in
+      let all = packets_read made ended packets has.bytes in
       let found = next_read made ended packets has.given pick.rest pick.delivery all.0 all.1 pick.all in
-      let is_next : IsNext ended packets has.given pick.delivery pick.rest old =
+      let is_next : IsNextReceived ended packets has.given pick.delivery pick.rest old =
       record { stands = has.stands; all = pick.all } in
       record {
         delivery = pick.delivery;
@@ -400,21 +401,22 @@ module _ (part : Part) (old new : Receiving) (was : Found) (start fin : Joined) 
   }
 
 -- where something keeps the stream from being joined already, a set is passed over
-module _ (part : Part) (old new : Receiving) (was : Found) (start : Joined) (end : SetEnd) (has_next : HasNext old)
+module _ (part : Part) (old new : SetReceiving) (was : Found) (start : Joined) (end : SetEnd)
+    (has_next : HasNextReceived old)
     (takes : (ended : Bool) (packets : List (List ℕ)) (given rest : List (Delivery (List ℕ)))
-    (delivery : Delivery (List ℕ)) → IsNext ended packets given delivery rest old
-    → Stands ended packets (given ++ delivery ∷ []) new)
+    (delivery : Delivery (List ℕ)) → IsNextReceived ended packets given delivery rest old
+    → HasBeenFed ended packets (given ++ delivery ∷ []) new)
     (answers : (ended : Bool) (packets : List (List ℕ)) (given rest : List (Delivery (List ℕ)))
     (delivery : Delivery (List ℕ)) (past : List (Delivery Reading)) (one : Delivery Reading)
-    → IsNext ended packets given delivery rest old → AreDeliveriesRead (reverse given) past
+    → IsNextReceived ended packets given delivery rest old → AreDeliveriesRead (reverse given) past
     → IsDeliveryRead delivery one
     → Some end ≡ verdict_of (reception old).profile (reception old).anchor past one)
     (loads : (ended : Bool) (packets : List (List ℕ)) (given rest : List (Delivery (List ℕ)))
     (delivery : Delivery (List ℕ)) (past : List (Delivery Reading)) (one : Delivery Reading)
-    → IsNext ended packets given delivery rest old → AreDeliveriesRead (reverse given) past
+    → IsNextReceived ended packets given delivery rest old → AreDeliveriesRead (reverse given) past
     → IsDeliveryRead delivery one
     → Some new.load ≡ set_load (reception old).profile (reception old).anchor past one)
-    (same : IsSame old new) (bad : is_good was.finding ≡ false) where
+    (same : IsSameReception old new) (bad : is_good was.finding ≡ false) where
   pub set_passed : TakesSets part old new was was start start
   set_passed =
       passed_over part old new was start same

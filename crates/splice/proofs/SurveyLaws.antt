@@ -9,14 +9,15 @@ use Rattle.stream_syntax.specs.declared.transport.PacketFault.{PacketFault}
 use Rattle.decoder_model.specs.Contents.{has_state}
 use Rattle.decoder_model.specs.Faults.{contents_in}
 use Rattle.decoder_model.specs.Readings.{AreDeliveriesRead, Reading}
+use Rattle.decoder_model.specs.Received.{Reception, sets_received}
 use Rattle.decoder_model.specs.Sets.{Delivery, lost, whole, refused}
 use Rattle.display_sets.specs.Gathered.{ready_sets}
 use Rattle.display_sets.proofs.PacketLaws.{none_arrived}
 use Rattle.reading_laws.proofs.OneReading.{same_past}
 use Rattle.sent_sets.specs.RawSets.{RawSet}
-use Rattle.set_receiver.specs.Receiving.{IsSame, Receiving, Reception, Stands, reception, sets_received}
-use Rattle.set_receiver.specs.Taking.{AllTaken, AreBytes}
-use Rattle.splice.specs.StreamTests.{AreTaken, BeginsAnew, IsFirstRefused, is_lost}
+use Rattle.set_receiver.specs.Receiving.{IsSameReception, SetReceiving, HasBeenFed, reception}
+use Rattle.set_receiver.specs.Taking.{AllReceived, AreAllBytes}
+use Rattle.splice.specs.StreamTests.{CanBeTaken, BeginsAnew, IsFirstRefused, is_lost}
 use Rattle.splice.specs.Private.JoinedSets.{IsJoinedOf}
 use Rattle.splice.specs.Private.Parts.{placed}
 use Rattle.splice.specs.Private.Stops.{IsStopAt}
@@ -35,18 +36,18 @@ use Rattle.splice.specs.declared.found.Survey.TheVariants.{Refused, Whole}
 
 -- ---- packets
 
-none_taken : (pid : ℕ) → AreTaken pid []
+none_taken : (pid : ℕ) → CanBeTaken pid []
 none_taken pid = All-nil (λ packet. packet_fault pid packet ≡ None)
 
 -- a packet behind those that were taken can be taken
-taken_more : (pid : ℕ) (packets : List (List ℕ)) (packet : List ℕ) → AreTaken pid packets
-    → packet_fault pid packet ≡ None → AreTaken pid (packets ++ packet ∷ [])
+taken_more : (pid : ℕ) (packets : List (List ℕ)) (packet : List ℕ) → CanBeTaken pid packets
+    → packet_fault pid packet ≡ None → CanBeTaken pid (packets ++ packet ∷ [])
 taken_more pid packets packet taken none =
     All-push (λ packet. packet_fault pid packet ≡ None) packets packet taken none
 
 -- or it is the first that cannot
 first_refused : (pid : ℕ) (before : List (List ℕ)) (packet : List ℕ) (rest : List (List ℕ)) (fault : PacketFault)
-    → AreTaken pid before → packet_fault pid packet ≡ Some fault
+    → CanBeTaken pid before → packet_fault pid packet ≡ Some fault
     → IsFirstRefused pid (before ++ packet ∷ rest) (length before) fault
 first_refused pid before packet rest fault taken is = record {
   before = before;
@@ -80,8 +81,8 @@ none_placed (Before cut) = refl
 none_placed (From cut) = refl
 
 -- before the first packet
-pub gone_nowhere : (made : Reception) (part : Part) (receiving : Receiving) (start : Joined)
-    → reception receiving ≡ made → made.anchor < 2 ^ 33 → Stands false [] [] receiving
+pub gone_nowhere : (made : Reception) (part : Part) (receiving : SetReceiving) (start : Joined)
+    → reception receiving ≡ made → made.anchor < 2 ^ 33 → HasBeenFed false [] [] receiving
     → ready_sets receiving.collecting.sets ≡ [] → HasGone made part [] receiving nothing_found start start
 gone_nowhere made part receiving start own low stands none = record {
   own = own;
@@ -92,7 +93,7 @@ gone_nowhere made part receiving start own low stands none = record {
     low = low;
     few = omega arith;
     past = [];
-    has = record { bytes = All-nil AreBytes; given = []; stands = stands; read = tt };
+    has = record { bytes = All-nil AreAllBytes; given = []; stands = stands; read = tt };
     so = record {
       lossless = ap (list_any is_lost) (none_arrived made.profile.coded made.pid made.pages);
       count = refl;
@@ -108,7 +109,7 @@ gone_nowhere made part receiving start own low stands none = record {
 }
 
 -- no packet more
-pub through_none : (part : Part) (first : ℕ) (packets : List (List ℕ)) (receiving : Receiving) (found : Found)
+pub through_none : (part : Part) (first : ℕ) (packets : List (List ℕ)) (receiving : SetReceiving) (found : Found)
     (start : Joined)
     → GoesThrough part first (take 0 packets) receiving receiving (Whole found) (Whole found) start start
 through_none part first packets receiving found start = record {
@@ -119,9 +120,9 @@ through_none part first packets receiving found start = record {
 
 -- one packet more, which is taken
 taken_one : (made : Reception) (part : Part) (before : List (List ℕ)) (packet : List ℕ) (place : ℕ)
-    (old new : Receiving) (was is : Found) (origin start end : Joined) → length before ≡ place
+    (old new : SetReceiving) (was is : Found) (origin start end : Joined) → length before ≡ place
     → HasGone made part before old was origin start → TakesPacket part packet place old new was is start end
-    → packet_fault (reception old).pid packet ≡ None → ready_sets new.collecting.sets ≡ [] → IsSame old new
+    → packet_fault (reception old).pid packet ≡ None → ready_sets new.collecting.sets ≡ [] → IsSameReception old new
     → HasGone made part (before ++ packet ∷ []) new is origin end
 taken_one made part before packet place old new was is origin start end count gone takes passed none same = record {
   own = same ∙ gone.own;
@@ -137,12 +138,12 @@ placed_behind : (first k place : ℕ) (before packets : List (List ℕ)) → pla
 placed_behind first k place before packets at count inside =
     omega (arith, at, count, length-append before (take k packets), length-take-le k packets (omega (arith, inside)))
 
-pub through_one : (part : Part) (first k place : ℕ) (packets : List (List ℕ)) (old mid new : Receiving)
+pub through_one : (part : Part) (first k place : ℕ) (packets : List (List ℕ)) (old mid new : SetReceiving)
     (was half is : Found) (start between end : Joined) → place ≡ first + k → k < length packets
     → GoesThrough part first (take k packets) old mid (Whole was) (Whole half) start between
     → TakesPacket part (get_or packets k []) place mid new half is between end
     → packet_fault (reception mid).pid (get_or packets k []) ≡ None → ready_sets new.collecting.sets ≡ []
-    → IsSame mid new
+    → IsSameReception mid new
     → GoesThrough part first (take (k + 1) packets) old new (Whole was) (Whole is) start end
 through_one part first k place packets old mid new was half is start between end at inside through takes passed none
     same = record {
@@ -156,7 +157,7 @@ through_one part first k place packets old mid new was half is start between end
     }
 
 -- a packet that cannot be taken
-through_refused : (part : Part) (first k place : ℕ) (packets : List (List ℕ)) (old mid new : Receiving)
+through_refused : (part : Part) (first k place : ℕ) (packets : List (List ℕ)) (old mid new : SetReceiving)
     (was half : Found) (start between end : Joined) (number : ℕ) (fault : PacketFault) → place ≡ first + k
     → k < length packets → GoesThrough part first (take k packets) old mid (Whole was) (Whole half) start between
     → number ≡ place → packet_fault (reception mid).pid (get_or packets k []) ≡ Some fault
@@ -183,7 +184,7 @@ through_refused part first k place packets old mid new was half start between en
         ∙ ap (λ (front : List (List ℕ)). front ++ drop (k + 1) packets) (sym (take_more packets k [] inside))
         ∙ take-append-drop (k + 1) packets
 
-pub through_stopped : (part : Part) (first k place : ℕ) (packets : List (List ℕ)) (old mid new : Receiving)
+pub through_stopped : (part : Part) (first k place : ℕ) (packets : List (List ℕ)) (old mid new : SetReceiving)
     (was half : Found) (start between end : Joined) (why : ReadStop) (is : Survey) → place ≡ first + k
     → k < length packets → GoesThrough part first (take k packets) old mid (Whole was) (Whole half) start between
     → IsStopAt (reception mid).pid place (get_or packets k []) why → IsStopped why is
@@ -197,7 +198,7 @@ through_stopped part first k place packets old mid new was half start between en
     stops.0 stops.1)
 
 pub stopped_through : {E : Type 0} (part : Part) (first k place : ℕ) (packets : List (List ℕ))
-    (old mid new : Receiving) (was half : Found) (start between end : Joined) (why : ReadStop)
+    (old mid new : SetReceiving) (was half : Found) (start between end : Joined) (why : ReadStop)
     (result : Result Survey E) → place ≡ first + k → k < length packets
     → GoesThrough part first (take k packets) old mid (Whole was) (Whole half) start between
     → IsStopAt (reception mid).pid place (get_or packets k []) why → IfOk result (IsStopped why)
@@ -210,7 +211,7 @@ stopped_through part first k place packets old mid new was half start between en
     stops stopped = tt
 
 -- behind a packet that cannot be taken
-pub through_passed : (part : Part) (first : ℕ) (more : List (List ℕ)) (receiving : Receiving) (number : ℕ)
+pub through_passed : (part : Part) (first : ℕ) (more : List (List ℕ)) (receiving : SetReceiving) (number : ℕ)
     (fault : PacketFault) (start : Joined)
     → GoesThrough part first more receiving receiving (Refused number fault) (Refused number fault) start start
 through_passed part first more receiving number fault start = record {
@@ -316,7 +317,7 @@ surveyed made part earlier packets past found joined (Lost packet) received so =
 
 -- where all was taken of a stream that has ended, this was found of it
 found_whole : (made : Reception) (part : Part) (earlier : List RawSet) (packets : List (List ℕ))
-    (receiving : Receiving) (found : Found) (joined : Joined) → AllTaken receiving
+    (receiving : SetReceiving) (found : Found) (joined : Joined) → AllReceived receiving
     → HasFound made part earlier true packets receiving found joined
     → IsSurveyed made part earlier packets found joined found.finding
 found_whole made part earlier packets receiving found joined all so =
@@ -329,11 +330,12 @@ found_whole made part earlier packets receiving found joined all so =
     IsFoundSo made part earlier packets so.past (reverse sets) found joined found.finding) given so.so)
 
 -- the stream has ended
-ended_found : (made : Reception) (part : Part) (earlier : List RawSet) (packets : List (List ℕ)) (old new : Receiving)
+ended_found : (made : Reception) (part : Part) (earlier : List RawSet) (packets : List (List ℕ))
+    (old new : SetReceiving)
     (found : Found) (joined : Joined)
-    → ((fed : List (List ℕ)) (given : List (Delivery (List ℕ))) → Stands false fed given old
-    → Stands true fed given new)
-    → IsSame old new → HasFound made part earlier false packets old found joined
+    → ((fed : List (List ℕ)) (given : List (Delivery (List ℕ))) → HasBeenFed false fed given old
+    → HasBeenFed true fed given new)
+    → IsSameReception old new → HasFound made part earlier false packets old found joined
     → HasFound made part earlier true packets new found joined
 ended_found made part earlier packets old new found joined ends same so = record {
   own = same ∙ so.own;
@@ -349,10 +351,10 @@ ended_found made part earlier packets old new found joined ends same so = record
   so = so.so;
 }
 
-pub stream_ended : (part : Part) (old mid new : Receiving) (was is : Found) (start end : Joined)
-    → ((fed : List (List ℕ)) (given : List (Delivery (List ℕ))) → Stands false fed given old
-    → Stands true fed given mid)
-    → IsSame old mid → TakesSets part mid new was is start end → AllTaken new
+pub stream_ended : (part : Part) (old mid new : SetReceiving) (was is : Found) (start end : Joined)
+    → ((fed : List (List ℕ)) (given : List (Delivery (List ℕ))) → HasBeenFed false fed given old
+    → HasBeenFed true fed given mid)
+    → IsSameReception old mid → TakesSets part mid new was is start end → AllReceived new
     → HasEnded part old was is start end
 stream_ended part old mid new was is start end ends same takes all = record {
   goes = λ made earlier packets. λ so.
@@ -362,7 +364,7 @@ stream_ended part old mid new was is start end ends same takes all = record {
 }
 
 -- what going through its packets came to, then
-pub ends_gone : (part : Part) (receiving : Receiving) (was is : Found) (start end : Joined)
+pub ends_gone : (part : Part) (receiving : SetReceiving) (was is : Found) (start end : Joined)
     → HasEnded part receiving was is start end → EndsGone part receiving (Whole was) (Whole is) start end
 ends_gone part receiving was is start end ended = record {
   goes = λ made origin packets gone. (
@@ -371,6 +373,6 @@ ends_gone part receiving was is start end ended = record {
   );
 }
 
-pub ends_refused : (part : Part) (receiving : Receiving) (number : ℕ) (fault : PacketFault) (start : Joined)
+pub ends_refused : (part : Part) (receiving : SetReceiving) (number : ℕ) (fault : PacketFault) (start : Joined)
     → EndsGone part receiving (Refused number fault) (Refused number fault) start start
 ends_refused part receiving number fault start = record { goes = λ made origin packets gone. gone }

@@ -13,7 +13,7 @@ use Rattle.sub_base.specs.declared.status.Which.TheVariants as which
 use Rattle.packet_source.specs.InHand.{whole_packets}
 use Rattle.sent_sets.specs.RawSets.{RawSet}
 use Rattle.splice.proofs.ShownSpliced.{spliced_is_shown}
-use Rattle.splice.specs.SpliceOutcome.{AreRead, IsSpliceRefused, LeavesEmpty, splice_causes}
+use Rattle.splice.specs.SpliceOutcome.{AreStreamsRead, IsSpliceRefused, LeavesEmpty, splice_causes}
 use Rattle.splice.specs.SplicedSets.{IsSplicing, Streams, first_reception, second_reception}
 use Rattle.splice.specs.Private.Inputs.{IsInput, IsInputCause, unread_status}
 use Rattle.splice.specs.Private.JoinedSets.{IsJoinedOf, IsLastTime}
@@ -64,7 +64,7 @@ module _ (splicing : Splicing) (before now : Seen) (start between joined : Joine
   abbrev pub its_streams : Streams
   its_streams = record { first = whole_packets first.bytes; second = whole_packets second.bytes }
 
-  pub are_read : AreRead before now its_streams
+  pub are_read : AreStreamsRead before now its_streams
   are_read = record {
     first_bytes = first.bytes;
     second_bytes = second.bytes;
@@ -87,7 +87,7 @@ module _ (splicing : Splicing) (before now : Seen) (start between joined : Joine
 
 -- ---- the ends
 
-module _ (splicing : Splicing) (streams : Streams) (before now : Seen) (read : AreRead before now streams) where
+module _ (splicing : Splicing) (streams : Streams) (before now : Seen) (read : AreStreamsRead before now streams) where
   pub refused_cause : (fault : SpliceFault) → IsSpliceRefused splicing streams fault
       → WroteNothing before.out now.out
       → IsToolCause (splice_causes splicing before now) before now (tool.Refused fault)

@@ -1,9 +1,9 @@
 -- The display sets of a stream that are kept, at their lifted times (EN 300 743, clause 5.1).
 use Rattle.std.specs.Prelude.{ℕ, true, List, [], ◌∷◌, ◌++◌, reverse, Option, Some, None}
 use Rattle.decoder_model.specs.Kept.{lifted_time}
+use Rattle.decoder_model.specs.Received.{Reception, sets_received}
 use Rattle.decoder_model.specs.Sets.{Delivery, lost, whole, refused}
 use Rattle.sent_sets.specs.RawSets.{RawSet}
-use Rattle.set_receiver.specs.Receiving.{Reception, sets_received}
 
 -- what is handed over as a set with that lifted time: a whole set that is kept; a loss, and a set that is refused or
 -- not kept, is none

@@ -9,12 +9,12 @@ use Rattle.sub_base.specs.declared.status.ToolStatus.{ToolStatus}
 use Rattle.sub_base.specs.declared.status.ToolStatus.TheVariants as tool
 use Rattle.packet_source.specs.InHand.{whole_packets}
 use Rattle.stream_syntax.specs.declared.transport.PacketFault.{PacketFault}
-use Rattle.schedule.specs.Refusals.{IsCause}
+use Rattle.schedule.specs.Refusals.{IsScheduleCause}
 use Rattle.schedule.specs.declared.fault.ScheduleFault.{ScheduleFault}
 use Rattle.schedule.specs.declared.fault.ScheduleFault.TheVariants.{Memory}
 use Rattle.splice.specs.SplicedSets.{Streams, IsLoadOf, first_reception, second_reception, splice_pace, spliced_sets}
 use Rattle.splice.specs.SplicedStream.{AreBothTaken, AreGood, AreWhole, CLOSE, CanBeJoined, FAR, IsLastBefore, IsShownAsBefore, IsSplicedTo}
-use Rattle.splice.specs.StreamTests.{AreShown, AreTaken, BeginsAnew, IsFirstLost, IsFirstRefused, IsFirstUnshown, IsLossless}
+use Rattle.splice.specs.StreamTests.{AreSetsShown, CanBeTaken, BeginsAnew, IsFirstLost, IsFirstRefused, IsFirstUnshown, IsLossless}
 use Rattle.splice.specs.declared.limits.TheConstants.{SPLICE_LIMIT}
 use Rattle.splice.specs.declared.splice_fault.SpliceFault.{SpliceFault}
 use Rattle.splice.specs.declared.splice_fault.SpliceFault.TheVariants as splice
@@ -34,7 +34,7 @@ splice_fault_name (splice.Schedule fault) = codes "Schedule"
 
 -- both sources were read to their ends, within the limit, and had these packets, each perhaps with bytes behind them
 -- that are no packet
-pub record AreRead (before now : Seen) (streams : Streams) : Type 0 where
+pub record AreStreamsRead (before now : Seen) (streams : Streams) : Type 0 where
   pub first_bytes : List ℕ
   pub second_bytes : List ℕ
   pub first_read : WasRead SPLICE_LIMIT before.first now.first first_bytes
@@ -49,7 +49,7 @@ pub record AreRead (before now : Seen) (streams : Streams) : Type 0 where
 abbrev pub HasBadPacket : Splicing → Streams → Bool → ℕ → PacketFault → Type 0
 HasBadPacket splicing streams false packet fault = IsFirstRefused splicing.pid streams.first packet fault
 HasBadPacket splicing streams true packet fault =
-    AreTaken splicing.pid streams.first × IsFirstRefused splicing.pid streams.second packet fault
+    CanBeTaken splicing.pid streams.first × IsFirstRefused splicing.pid streams.second packet fault
 
 -- the first packet with which something is lost
 abbrev pub HasLoss : Splicing → Streams → Bool → ℕ → Type 0
@@ -63,15 +63,15 @@ abbrev pub HasUnshown : Splicing → Streams → Bool → ℕ → Type 0
 HasUnshown splicing streams false set =
     IsFirstUnshown (first_reception splicing) (Some splicing.cut) streams.first set
 HasUnshown splicing streams true set =
-    AreShown (first_reception splicing) (Some splicing.cut) streams.first
+    AreSetsShown (first_reception splicing) (Some splicing.cut) streams.first
     × IsFirstUnshown (second_reception splicing) None streams.second set
 
 -- the sets of the joined streams cannot be sent in time; want of memory is no such refusal
-pub record IsUnscheduled (splicing : Splicing) (streams : Streams) (fault : ScheduleFault) : Type 0 where
+pub record IsSplicedUnscheduled (splicing : Splicing) (streams : Streams) (fault : ScheduleFault) : Type 0 where
   pub joined : CanBeJoined splicing streams
   pub loads : List WriteLoad
   pub asked : AllZip IsLoadOf (spliced_sets splicing streams) loads
-  pub cause : IsCause loads (splice_pace splicing) fault
+  pub cause : IsScheduleCause loads (splice_pace splicing) fault
   pub found : fault ≢ Memory
 
 abbrev pub IsSpliceRefused : Splicing → Streams → SpliceFault → Type 0
@@ -89,7 +89,7 @@ IsSpliceRefused splicing streams (splice.CutTooClose last) =
 IsSpliceRefused splicing streams (splice.CutTooFar last) =
     AreGood splicing streams × BeginsAnew (second_reception splicing) streams.second
     × IsLastBefore splicing streams last × (last + FAR ≤ splicing.cut)
-IsSpliceRefused splicing streams (splice.Schedule fault) = IsUnscheduled splicing streams fault
+IsSpliceRefused splicing streams (splice.Schedule fault) = IsSplicedUnscheduled splicing streams fault
 
 -- ---- causes
 
@@ -97,7 +97,7 @@ IsSpliceRefused splicing streams (splice.Schedule fault) = IsUnscheduled splicin
 -- what the first stream shows, and from the cut on what the second shows
 pub record IsSpliced (splicing : Splicing) (before now : Seen) : Type 0 where
   pub streams : Streams
-  pub read : AreRead before now streams
+  pub read : AreStreamsRead before now streams
   pub packets : List (List ℕ)
   pub each : All (λ packet. length packet ≡ 188) packets
   pub sent : IsSplicedTo splicing streams (concat packets)
@@ -107,14 +107,14 @@ pub record IsSpliced (splicing : Splicing) (before now : Seen) : Type 0 where
 -- both streams were read, and are refused for that; nothing was written
 pub record IsRefusedFor (splicing : Splicing) (before now : Seen) (fault : SpliceFault) : Type 0 where
   pub streams : Streams
-  pub read : AreRead before now streams
+  pub read : AreStreamsRead before now streams
   pub refused : IsSpliceRefused splicing streams fault
   pub nothing : WroteNothing before.out now.out
 
 -- both streams were read, and a prefix of the packets of the joined streams was written
 pub record IsSplicedInPart (splicing : Splicing) (before now : Seen) : Type 0 where
   pub streams : Streams
-  pub read : AreRead before now streams
+  pub read : AreStreamsRead before now streams
   pub bytes : List ℕ
   pub sent : IsSplicedTo splicing streams bytes
   pub written : WrotePrefix before.out now.out bytes

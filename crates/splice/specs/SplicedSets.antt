@@ -7,11 +7,10 @@ use Rattle.sub_base.specs.declared.load.WriteLoad.{WriteLoad}
 use Rattle.sub_base.specs.declared.pace.Pace.{Pace}
 use Rattle.stream_syntax.specs.declared.wire.TheConstants.{NULL_PID}
 use Rattle.decoder_model.specs.Faults.{contents_in}
-use Rattle.decoder_model.specs.Frames.{only}
 use Rattle.decoder_model.specs.Painting.{set_painting}
 use Rattle.decoder_model.specs.Readings.{Reading, AreReadings}
+use Rattle.decoder_model.specs.Received.{Reception, for_page}
 use Rattle.sent_sets.specs.RawSets.{RawSet, AreRawPackets}
-use Rattle.set_receiver.specs.Receiving.{Reception}
 use Rattle.splice.specs.KeptSets.{kept_sets}
 use Rattle.splice.specs.declared.splice_words.Splicing.{Splicing}
 
@@ -24,12 +23,7 @@ pub record Streams : Type 0 where
 
 -- how a stream is received: for the profile, the PID and the page, with an anchor
 abbrev pub received_from : ℕ → Splicing → Reception
-received_from origin splicing = record {
-  profile = profile_of splicing.profile;
-  pid = splicing.pid;
-  pages = only splicing.page;
-  anchor = origin;
-}
+received_from origin splicing = for_page splicing.profile splicing.pid splicing.page origin
 
 -- the first stream is received with the origin as its anchor, and the second with 0
 abbrev pub first_reception : Splicing → Reception

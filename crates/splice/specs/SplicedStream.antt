@@ -5,20 +5,20 @@ use Rattle.sub_base.specs.declared.load.WriteLoad.{WriteLoad}
 use Rattle.stream_syntax.specs.declared.wire.TheConstants.{TIME_ROUND}
 use Rattle.schedule.specs.Arrivals.{IsArrival}
 use Rattle.schedule.specs.Slots.{Timetable}
+use Rattle.decoder_model.specs.Received.{Reception}
 use Rattle.decoder_model.specs.Shown.{View, IsShown}
 use Rattle.sent_sets.specs.RawSets.{RawSet}
 use Rattle.sent_sets.specs.SentStream.{IsSentTo}
-use Rattle.set_receiver.specs.Receiving.{Reception}
 use Rattle.splice.specs.KeptSets.{kept_sets}
 use Rattle.splice.specs.SplicedSets.{Streams, IsLoadOf, begin_of, first_reception, is_before, received_from, second_reception, splice_pace, spliced_sets}
-use Rattle.splice.specs.StreamTests.{AreShown, AreTaken, BeginsAnew, IsLossless}
+use Rattle.splice.specs.StreamTests.{AreSetsShown, CanBeTaken, BeginsAnew, IsLossless}
 use Rattle.splice.specs.declared.splice_words.Splicing.{Splicing}
 
 -- ---- streams that can be joined
 
 -- each packet of both streams can be taken
 abbrev pub AreBothTaken : Splicing → Streams → Type 0
-AreBothTaken splicing streams = AreTaken splicing.pid streams.first × AreTaken splicing.pid streams.second
+AreBothTaken splicing streams = CanBeTaken splicing.pid streams.first × CanBeTaken splicing.pid streams.second
 
 -- and nothing is lost in either
 pub record AreWhole (splicing : Splicing) (streams : Streams) : Type 0 where
@@ -29,8 +29,8 @@ pub record AreWhole (splicing : Splicing) (streams : Streams) : Type 0 where
 -- and each set is shown, but those of the first stream from the cut on
 pub record AreGood (splicing : Splicing) (streams : Streams) : Type 0 where
   pub whole : AreWhole splicing streams
-  pub first : AreShown (first_reception splicing) (Some splicing.cut) streams.first
-  pub second : AreShown (second_reception splicing) None streams.second
+  pub first : AreSetsShown (first_reception splicing) (Some splicing.cut) streams.first
+  pub second : AreSetsShown (second_reception splicing) None streams.second
 
 -- that is the time of the first stream's last set before the cut
 pub record IsLastBefore (splicing : Splicing) (streams : Streams) (last : ℕ) : Type 0 where
@@ -77,22 +77,18 @@ pub record IsSplicedTo (splicing : Splicing) (streams : Streams) (bytes : List �
 abbrev pub SuitsSets : List RawSet → ℕ → Type 0
 SuitsSets sets anchor = All (λ (set : RawSet). (anchor ≤ set.time) × (set.time < anchor + TIME_ROUND)) sets
 
--- this is shown of a stream that has ended at a tick
-abbrev pub IsShownOf : Reception → List (List ℕ) → ℕ → View → Type 0
-IsShownOf reception packets tick shown =
-    IsShown reception.profile reception.pid reception.pages reception.anchor true packets tick shown
-
 -- the tick of the second stream that stands at a tick from the cut on
 abbrev pub second_tick : Splicing → Streams → ℕ → ℕ
 second_tick splicing streams tick =
     tick - splicing.cut + begin_of (kept_sets (second_reception splicing) streams.second)
 
--- at a tick of each, a receiver of one stream and a receiver of another show the same view
+-- at a tick of each, a receiver of one stream and a receiver of another show the same view, where both streams have
+-- ended
 pub record ShowAlike (one : Reception) (packets : List (List ℕ)) (tick : ℕ) (other : Reception)
     (stream : List (List ℕ)) (at : ℕ) : Type 0 where
   pub shown : View
-  pub is_shown : IsShownOf one packets tick shown
-  pub was_shown : IsShownOf other stream at shown
+  pub is_shown : IsShown one true packets tick shown
+  pub was_shown : IsShown other true stream at shown
 
 -- a receiver that gets the packets, with an anchor that suits all sets, shows before the cut what the first stream
 -- shows, and from it on what the second shows so many ticks earlier or later

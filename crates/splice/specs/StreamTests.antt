@@ -9,17 +9,16 @@ use Rattle.decoder_model.specs.Contents.{has_state}
 use Rattle.decoder_model.specs.Faults.{contents_in}
 use Rattle.decoder_model.specs.Kept.{lifted_time}
 use Rattle.decoder_model.specs.Readings.{Reading}
-use Rattle.decoder_model.specs.Received.{HasReceived}
+use Rattle.decoder_model.specs.Received.{HasReceived, Reception}
 use Rattle.decoder_model.specs.Sets.{Delivery, whole}
 use Rattle.decoder_model.specs.Verdict.{verdict_of}
 use Rattle.decoder_model.specs.declared.set_end.SetEnd.TheVariants.{Shown}
-use Rattle.set_receiver.specs.Receiving.{Reception}
 
 -- ---- packets
 
 -- each of the packets can be taken
-abbrev pub AreTaken : ℕ → List (List ℕ) → Type 0
-AreTaken pid packets = All (λ packet. packet_fault pid packet ≡ None) packets
+abbrev pub CanBeTaken : ℕ → List (List ℕ) → Type 0
+CanBeTaken pid packets = All (λ packet. packet_fault pid packet ≡ None) packets
 
 -- the packet at that place, counted from 0, is the first that cannot be taken, for that fault
 pub record IsFirstRefused (pid : ℕ) (packets : List (List ℕ)) (place : ℕ) (fault : PacketFault) : Type 0 where
@@ -28,7 +27,7 @@ pub record IsFirstRefused (pid : ℕ) (packets : List (List ℕ)) (place : ℕ) 
   pub rest : List (List ℕ)
   pub parts : packets ≡ before ++ packet ∷ rest
   pub place_is : place ≡ length before
-  pub taken : AreTaken pid before
+  pub taken : CanBeTaken pid before
   pub is_fault : packet_fault pid packet ≡ Some fault
 
 -- ---- losses
@@ -78,9 +77,9 @@ AreShownUpTo reception cut (delivery ∷ before) =
     × AreShownUpTo reception cut before
 
 -- each set of the stream that has to be shown is shown
-pub record AreShown (reception : Reception) (cut : Option ℕ) (packets : List (List ℕ)) : Type 0 where
+pub record AreSetsShown (reception : Reception) (cut : Option ℕ) (packets : List (List ℕ)) : Type 0 where
   pub past : List (Delivery Reading)
-  pub received : HasReceived reception.profile reception.pid reception.pages true packets past
+  pub received : HasReceived reception true packets past
   pub each : AreShownUpTo reception cut past
 
 -- the set at that place, counted from 0 among all sets of a stream without losses, is the first that has to be shown
@@ -88,7 +87,7 @@ pub record AreShown (reception : Reception) (cut : Option ℕ) (packets : List (
 pub record IsFirstUnshown (reception : Reception) (cut : Option ℕ) (packets : List (List ℕ)) (place : ℕ)
     : Type 0 where
   pub past : List (Delivery Reading)
-  pub received : HasReceived reception.profile reception.pid reception.pages true packets past
+  pub received : HasReceived reception true packets past
   pub later : List (Delivery Reading)
   pub delivery : Delivery Reading
   pub before : List (Delivery Reading)
@@ -101,7 +100,7 @@ pub record IsFirstUnshown (reception : Reception) (cut : Option ℕ) (packets : 
 -- the stream has a first set, and that is a mode change
 pub record BeginsAnew (reception : Reception) (packets : List (List ℕ)) : Type 0 where
   pub past : List (Delivery Reading)
-  pub received : HasReceived reception.profile reception.pid reception.pages true packets past
+  pub received : HasReceived reception true packets past
   pub later : List (Delivery Reading)
   pub time : ℕ
   pub size : ℕ

@@ -3,9 +3,9 @@
 ghost use Rattle.std.specs.Prelude.{◌≡◌, ◌+◌, ◌*◌, ◌/◌, ◌<◌, ◌≤◌, ◌^◌, ◌↔◌, IfErr, IfOk, IsTrue, [], false, length};
 ghost use Rattle.display_sets.specs.Gathered.{ready_sets};
 ghost use Rattle.packet_source.specs.InHand.{nothing_read, read_count};
-ghost use Rattle.packet_source.specs.Packets.{Stands as HasGiven};
+ghost use Rattle.packet_source.specs.Packets.{HasGivenInHand as HasGiven};
 ghost use Rattle.packet_source.specs.declared.limits.TheConstants.{STREAM_LIMIT};
-ghost use Rattle.set_receiver.specs.Receiving.{Stands, reception};
+ghost use Rattle.set_receiver.specs.Receiving.{HasBeenFed, reception};
 ghost use Rattle.splice.specs.SplicedSets.{received_from};
 ghost use Rattle.splice.specs.Private.Inputs.{HasReadThrough, IsInput, IsInputCause, unread_status};
 ghost use Rattle.splice.specs.Private.Inputs.{end_fault as end_fault_of};
@@ -72,7 +72,7 @@ fn read_through<A: Source>(
 ) -> Result<Survey, ReadAllFault>
     requires nothing { packets.old ≡ nothing_read }
     requires source { (now : Supplied) → HasGiven now now packets.old [] }
-    requires fresh { Stands false [] [] receiver.old }
+    requires fresh { HasBeenFed false [] [] receiver.old }
     requires none { ready_sets receiver.old.collecting.sets ≡ [] }
     requires anchor { (reception receiver.old).anchor < 2 ^ 33 }
     requires cut { cut_of part < 2 ^ 34 }

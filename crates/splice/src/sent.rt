@@ -5,7 +5,7 @@ ghost use Rattle.std.specs.Io.KnownBytes.{Appends, Keeps};
 ghost use Rattle.sub_base.specs.Counts.{HasRisen};
 ghost use Rattle.sub_base.specs.Endpoints.{AppendsPrefix};
 ghost use Rattle.sub_base.specs.Lists.{all_of};
-ghost use Rattle.schedule.specs.Refusals.{IsCause};
+ghost use Rattle.schedule.specs.Refusals.{IsScheduleCause};
 ghost use Rattle.schedule.specs.Slots.{IsLoad};
 ghost use Rattle.sent_sets.specs.RawSets.{RawSet};
 ghost use Rattle.slot_stream.specs.SlotStream.{all_pieces, stream_of};
@@ -57,7 +57,7 @@ fn schedule_of(
     requires ranges { IsSplicing splicing }
     requires each { All IsLoad joined.now.loads.items }
     ensures in_time { IfOk result (AreInTime (splice_pace splicing) joined.now.loads.items) }
-    ensures cause { IfErr result (IsCause joined.now.loads.items (splice_pace splicing)) }
+    ensures cause { IfErr result (IsScheduleCause joined.now.loads.items (splice_pace splicing)) }
 {
     let receiver = Profile::of(splicing.profile);
     Schedule::make(alloc, joined.loads.as_slice(), splicing.origin, &receiver)

@@ -2,8 +2,8 @@
 
 ghost use Rattle.std.specs.Prelude.{◌≡◌, ◌<◌, ◌^◌, IfErr, IsSome, None, OnOk, []};
 ghost use Rattle.display_sets.specs.Gathered.{first_ready, ready_sets, sets_behind};
-ghost use Rattle.set_receiver.specs.Receiving.{IsSame, reception};
-ghost use Rattle.set_receiver.specs.Taking.{AllTaken, HasNext};
+ghost use Rattle.set_receiver.specs.Receiving.{IsSameReception, reception};
+ghost use Rattle.set_receiver.specs.Taking.{AllReceived, HasNextReceived};
 ghost use Rattle.splice.specs.Private.Parts.{cut_of};
 ghost use Rattle.splice.specs.Private.Puts.{IsPut};
 ghost use Rattle.splice.specs.Private.Surveys.{TakesPacket, TakesSets};
@@ -55,7 +55,7 @@ pub(crate) fn take_packet(
     ensures taken { OnOk result (packet_fault (reception receiver.old).pid packet.now ≡ None) }
     ensures stop { IfErr result (IsStopAt (reception receiver.old).pid place packet.now) }
     ensures none { OnOk result (ready_sets receiver.new.collecting.sets ≡ []) }
-    ensures same { OnOk result (IsSame receiver.old receiver.new) }
+    ensures same { OnOk result (IsSameReception receiver.old receiver.new) }
 {
     // Most packets of a stream are null packets.
     if receiver.is_other(packet) {
@@ -87,8 +87,8 @@ pub(crate) fn take_ready(
     ensures sets { OnOk result (TakesSets part receiver.old receiver.new found.old found.new
         joined.old joined.new) }
     ensures none { OnOk result (ready_sets receiver.new.collecting.sets ≡ []) }
-    ensures all { OnOk result (AllTaken receiver.new) }
-    ensures same { IsSame receiver.old receiver.new }
+    ensures all { OnOk result (AllReceived receiver.new) }
+    ensures same { IsSameReception receiver.old receiver.new }
 {
     while let Some(_) = receiver.ready() {
         take_next(alloc, part, receiver, found, joined)?;
@@ -106,13 +106,13 @@ fn take_next(
     joined: &mut Joined,
 ) -> Result<(), NoMemory>
     requires ready { IsSome (first_ready (ready_sets receiver.old.collecting.sets)) }
-    requires next { HasNext receiver.old }
+    requires next { HasNextReceived receiver.old }
     requires cut { cut_of part < 2 ^ 34 }
     ensures sets { OnOk result (TakesSets part receiver.old receiver.new found.old found.new
         joined.old joined.new) }
     ensures left { OnOk result (ready_sets receiver.new.collecting.sets
         ≡ sets_behind (ready_sets receiver.old.collecting.sets)) }
-    ensures same { IsSame receiver.old receiver.new }
+    ensures same { IsSameReception receiver.old receiver.new }
 {
     if !found.is_good() {
         receiver.take();

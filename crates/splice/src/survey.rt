@@ -2,7 +2,7 @@
 
 ghost use Rattle.std.specs.Prelude.{◌≡◌, ◌+◌, ◌<◌, ◌≤◌, ◌^◌, IfOk, [], false, length};
 ghost use Rattle.display_sets.specs.Gathered.{ready_sets};
-ghost use Rattle.set_receiver.specs.Receiving.{Stands, reception};
+ghost use Rattle.set_receiver.specs.Receiving.{HasBeenFed, reception};
 ghost use Rattle.splice.specs.SplicedSets.{received_from};
 ghost use Rattle.splice.specs.Private.Parts.{cut_of};
 ghost use Rattle.splice.specs.Private.Surveyed.{EndsGone, GoesThrough, HasEnded, IsReady, IsStopped};
@@ -26,7 +26,7 @@ pub(crate) fn receiver_of(
 ) -> Result<SetReceiver, NoMemory>
     requires anchor { anchor < 2 ^ 33 }
     ensures made { IfOk result (λ receiver. reception receiver ≡ received_from anchor splicing) }
-    ensures fresh { IfOk result (Stands false [] []) }
+    ensures fresh { IfOk result (HasBeenFed false [] []) }
     ensures none { IfOk result (λ receiver. ready_sets receiver.collecting.sets ≡ []) }
 {
     let profile = Profile::of(splicing.profile);

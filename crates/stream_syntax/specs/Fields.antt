@@ -9,14 +9,14 @@ pub data Field : Type 0 where
   reserved : ℕ → Field
 
 -- the bits of a row: its number's, or, where it is reserved, any
-abbrev pub IsRow : Field → List ℕ → Type 0
-IsRow (number width n) row = row ≡ bits width n
-IsRow (reserved width) row = length row ≡ width
+abbrev pub IsRowBits : Field → List ℕ → Type 0
+IsRowBits (number width n) row = row ≡ bits width n
+IsRowBits (reserved width) row = length row ≡ width
 
 -- the bits are those of the rows of a table, one row after the other
 pub data HasFields : List Field → List ℕ → Type 0 where
   no_row : HasFields [] []
-  row_first : {field : Field} {fields : List Field} {stream : List ℕ} (row rest : List ℕ) → IsRow field row
+  row_first : {field : Field} {fields : List Field} {stream : List ℕ} (row rest : List ℕ) → IsRowBits field row
       → HasFields fields rest → stream ≡ row ++ rest → HasFields (field ∷ fields) stream
 
 -- what a writer makes of a row: its reserved bits are 1

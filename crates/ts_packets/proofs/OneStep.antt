@@ -3,7 +3,7 @@ use Rattle.std.proofs.Common.{◌≡◌, ℕ, true, false, cond, nat_eq, List, [
 use Rattle.stream_syntax.specs.declared.transport.Event.TheVariants as event
 use Rattle.stream_syntax.specs.TransportPackets.{packet_fault, pid_of, has_error_flag, has_payload, has_start_flag, counter_of, payload_of}
 use Rattle.stream_syntax.specs.Units.{succession, part_after, event_after, unit_after, is_payload, last_counter, hand_after, event_at, unit_at}
-use Rattle.ts_packets.specs.Demuxing.{Demuxing, Stands, GoesOn, hand_of, next_hand, lent_bytes}
+use Rattle.ts_packets.specs.Demuxing.{Demuxing, HasDemuxed, DemuxesOn, hand_of, next_hand, lent_bytes}
 use Rattle.ts_packets.specs.Private.Kinds.{IsPayloadOf}
 use Rattle.ts_packets.specs.Private.Steps.{Answers, StepsOn}
 use Rattle.ts_packets.proofs.UnitLemmas.{counter_push, hand_push}
@@ -14,7 +14,7 @@ use Rattle.ts_packets.specs.declared.kind.Payload.{Payload}
 
 -- a demultiplexer that steps on at a packet goes on over it
 pub steps_goes_on : (old new : Demuxing) (step : Step) (packet : List ℕ) → StepsOn old new step packet
-    → GoesOn old new packet
+    → DemuxesOn old new packet
 steps_goes_on old new step packet steps = record {
   pid = steps.pid;
   size = steps.size;
@@ -35,7 +35,7 @@ steps_goes_on old new step packet steps = record {
 
 -- its answer is that for each list that it stands for
 pub steps_event : (old new : Demuxing) (step : Step) (packet : List ℕ) → StepsOn old new step packet
-    → (packets : List (List ℕ)) → Stands old packets → step.event ≡ event_at old.pid old.size packets packet
+    → (packets : List (List ℕ)) → HasDemuxed old packets → step.event ≡ event_at old.pid old.size packets packet
 steps_event old new step packet steps packets stands =
     steps.told
     ∙ ap (λ last. event_after old.pid old.size last (hand_of old) packet) stands.counter
@@ -43,7 +43,7 @@ steps_event old new step packet steps packets stands =
 
 pub steps_unit : (old new : Demuxing) (step : Step) (packet : List ℕ) (unit : Option (List ℕ))
     → StepsOn old new step packet → unit ≡ lent_bytes new.bytes step.unit
-    → (packets : List (List ℕ)) → Stands old packets → unit ≡ unit_at old.pid old.size packets packet
+    → (packets : List (List ℕ)) → HasDemuxed old packets → unit ≡ unit_at old.pid old.size packets packet
 steps_unit old new step packet unit steps lent packets stands =
     lent
     ∙ steps.lent
@@ -72,7 +72,7 @@ other_steps d packet takes other = record {
 
 -- a packet of another PID changes nothing and tells nothing, whatever came before it
 pub other_goes_on : (d : Demuxing) (packet : List ℕ) → packet_fault d.pid packet ≡ None
-    → nat_eq (pid_of packet) d.pid ≡ false → GoesOn d d packet
+    → nat_eq (pid_of packet) d.pid ≡ false → DemuxesOn d d packet
 other_goes_on d packet takes other = steps_goes_on d d (alone event.Other) packet (other_steps d packet takes other)
 
 pub other_event : (pid size : ℕ) (packet : List ℕ) → nat_eq (pid_of packet) pid ≡ false

@@ -20,15 +20,15 @@ abbrev pub taken_up : Demuxing → List ℕ → Demuxing
 taken_up demux unit = record demux { holds = is_waiting (fate_of demux.size unit); bytes = unit }
 
 -- each thing that the demultiplexer keeps is what the definition gives for all packets so far
-pub record Stands (demux : Demuxing) (packets : List (List ℕ)) : Type 0 where
+pub record HasDemuxed (demux : Demuxing) (packets : List (List ℕ)) : Type 0 where
   pub counter : demux.counter ≡ last_counter demux.pid packets
   pub hand : hand_of demux ≡ hand_after demux.pid demux.size packets
 
 -- the new value stands for the packets that the old one stands for and this one at their end, whichever they are
-pub record GoesOn (old new : Demuxing) (packet : List ℕ) : Type 0 where
+pub record DemuxesOn (old new : Demuxing) (packet : List ℕ) : Type 0 where
   pub pid : new.pid ≡ old.pid
   pub size : new.size ≡ old.size
-  pub stands : (packets : List (List ℕ)) → Stands old packets → Stands new (packets ++ packet ∷ [])
+  pub stands : (packets : List (List ℕ)) → HasDemuxed old packets → HasDemuxed new (packets ++ packet ∷ [])
 
 -- a unit of which so many bytes are there stays in hand only where it waits
 abbrev pub kept : ℕ → Option (List ℕ) → Option (List ℕ)

@@ -81,7 +81,7 @@ impl Demux {
     ghost use Rattle.std.specs.Borrow.{sem};
     ghost use Rattle.stream_syntax.specs.TransportPackets.{packet_fault, pid_of};
     ghost use Rattle.stream_syntax.specs.Units.{Next, Missing, fate_of, event_at, unit_at, succession};
-    ghost use Rattle.ts_packets.specs.Demuxing.{lent_bytes, taken_up, GoesOn, Stands};
+    ghost use Rattle.ts_packets.specs.Demuxing.{lent_bytes, taken_up, DemuxesOn, HasDemuxed};
     ghost use Rattle.ts_packets.specs.Fates.{IsFate, IsShort, longest_unit};
     ghost use Rattle.ts_packets.specs.Private.Feeding.{IsFed};
     ghost use Rattle.ts_packets.specs.Private.Steps.{Answers, StepsOn};
@@ -91,7 +91,7 @@ impl Demux {
     pub fn make(alloc: Global, pid: u16, size: u64) -> Result<Demux, NoMemory>
         ensures pid { IfOk result (λ demux. demux.pid ≡ pid) }
         ensures size { IfOk result (λ demux. demux.size ≡ size) }
-        ensures stands { IfOk result (λ demux. Stands demux []) }
+        ensures stands { IfOk result (λ demux. HasDemuxed demux []) }
     {
         // No PES packet with a length is longer, however many bytes the caller takes.
         let room = size.min(LONGEST_UNIT) as usize + ROOM_BEHIND;
@@ -110,7 +110,7 @@ impl Demux {
     pub fn is_other(&self, packet: &[u8; 188]) -> bool
         ensures other { IsTrue result ↔ (packet_fault self.now.pid packet.now ≡ None)
             × ((pid_of packet.now == self.now.pid) ≡ false) }
-        ensures goes_on { IsTrue result → GoesOn self.now self.now packet.now }
+        ensures goes_on { IsTrue result → DemuxesOn self.now self.now packet.now }
         ensures event { IsTrue result → (packets : List (List ℕ))
             → event_at self.now.pid self.now.size packets packet.now ≡ Event.Other }
         ensures unit { IsTrue result → (packets : List (List ℕ))
@@ -141,9 +141,9 @@ impl Demux {
 
         // For each list of packets that it stands for, the answer is the event and the unit at this
         // packet behind them.
-        ensures event { IfOk result (λ fed. (packets : List (List ℕ)) → Stands self.old packets
+        ensures event { IfOk result (λ fed. (packets : List (List ℕ)) → HasDemuxed self.old packets
             → fed.event ≡ event_at self.old.pid self.old.size packets packet.now) }
-        ensures unit { IfOk result (λ fed. (packets : List (List ℕ)) → Stands self.old packets
+        ensures unit { IfOk result (λ fed. (packets : List (List ℕ)) → HasDemuxed self.old packets
             → option_copied fed.unit ≡ unit_at self.old.pid self.old.size packets packet.now) }
 
         // A PES packet with a length has at most 65,541 bytes, and one without a length ends with

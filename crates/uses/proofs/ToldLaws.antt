@@ -6,10 +6,10 @@ use Rattle.cue_list.specs.declared.limits.TheConstants.{LONGEST_SCRIPT}
 use Rattle.cue_list.specs.declared.script.Script.{Script}
 use Rattle.decoder_model.specs.Frames.{only}
 use Rattle.decoder_model.specs.Readings.{Reading}
-use Rattle.decoder_model.specs.Received.{HasReceived}
-use Rattle.decoder_model.specs.Sets.{Delivery, sets_of}
+use Rattle.decoder_model.specs.Received.{HasReceived, for_page, sets_received}
+use Rattle.decoder_model.specs.Sets.{Delivery}
 use Rattle.decoder_model.specs.Shown.{view_at}
-use Rattle.dump_text.specs.DumpText.{IsDumpText, anchor_of, view_text}
+use Rattle.dump_text.specs.DumpText.{IsDumpText, anchor_of, view_text, asked_for}
 use Rattle.packet_source.proofs.JoinedPackets.{one_stream}
 use Rattle.packet_walk.specs.ToldEnds.{IsToldEnd, IsWhole}
 use Rattle.packet_walk.specs.declared.told_end.ToldEnd.{ToldEnd}
@@ -17,27 +17,28 @@ use Rattle.packet_walk.specs.declared.told_end.ToldEnd.TheVariants as told_end
 use Rattle.reading_laws.proofs.OneReading.{same_past}
 use Rattle.script_stream.specs.SentScripts.{IsSentFor, SentScript, stream_bytes}
 use Rattle.script_stream.specs.ShownRightly.{IsShownRightly}
+use Rattle.shown_stream.specs.Compiled.{compiling_for}
 use Rattle.sub_base.specs.Endpoints.{Received}
 use Rattle.sub_base.specs.Profile.{profile_of}
 use Rattle.sub_base.specs.declared.profile.ProfileName.TheVariants.{Sd}
 use Rattle.uses.specs.ToldPicture.{IsDone, TellsPicture}
 
-module _ (script : Script) (tick : ℕ) (sent : SentScript) (of : IsSentFor Sd 256 1 script sent)
-    (shown : IsShownRightly Sd 256 1 script sent.sets sent.loads sent.table (stream_bytes sent))
+module _ (script : Script) (tick : ℕ) (sent : SentScript) (of : IsSentFor (compiling_for Sd 256 1 script) sent)
+    (shown : IsShownRightly (compiling_for Sd 256 1 script) sent.sets sent.loads sent.table (stream_bytes sent))
     (late : script.origin ≤ tick) (early : tick ≤ script.origin + LONGEST_SCRIPT) where
   -- the text of packets that are those of the script
   told_text : (packets : List (List ℕ)) (text : List ℕ) → packets ≡ shown.packets
-      → (told : IsDumpText (profile_of Sd) 256 (only 1) (tick ∷ []) true packets text)
+      → (told : IsDumpText (asked_for (profile_of Sd) 256 (only 1) (tick ∷ [])) (tick ∷ []) true packets text)
       → (before now : Option (List ℕ)) → Appends before now text → TellsPicture script tick before now
   told_text packets text same told before now written =
       let anchor = anchor_of (tick ∷ []) in
       let suits = shown.first_suits 0 anchor (omega (arith, late, early)) (omega (arith, late, early)) in
       let here = (shown.entered 0).shown anchor suits tick in
-      let received : HasReceived (profile_of Sd) 256 (only 1) true shown.packets told.past =
-      subst (λ (all : List (List ℕ)). HasReceived (profile_of Sd) 256 (only 1) true all told.past) same
+      let received : HasReceived (for_page Sd 256 1 anchor) true shown.packets told.past =
+      subst (λ (all : List (List ℕ)). HasReceived (for_page Sd 256 1 anchor) true all told.past) same
       told.received in
       let past : told.past ≡ here.is_shown.past =
-      same_past (reverse (sets_of (profile_of Sd).coded 256 (only 1) true shown.packets)) told.past
+      same_past (reverse (sets_received (for_page Sd 256 1 anchor) true shown.packets)) told.past
       here.is_shown.past received here.is_shown.received in
       let text_is : text ≡ view_text tick here.shown =
       told.whole
@@ -55,7 +56,7 @@ module _ (script : Script) (tick : ℕ) (sent : SentScript) (of : IsSentFor Sd 2
   -- a source in memory that had the script's packets was read to its end
   whole_told : (cut : ℕ) (bytes left : List ℕ) (given faults given_now faults_now : ℕ) (start next : Received)
       → bytes ≡ stream_bytes sent
-      → IsWhole (IsDumpText (profile_of Sd) 256 (only 1) (tick ∷ [])) 256
+      → IsWhole (IsDumpText (asked_for (profile_of Sd) 256 (only 1) (tick ∷ [])) (tick ∷ [])) 256
       (record { left = Some bytes; given = given; faults = faults })
       (record { left = Some left; given = given_now; faults = faults_now }) start next cut
       → TellsPicture script tick start.written next.written
@@ -70,7 +71,7 @@ module _ (script : Script) (tick : ℕ) (sent : SentScript) (of : IsSentFor Sd 2
   -- so it is with the end of its telling
   pub told_picture : (end : ToldEnd) (bytes left : List ℕ) (given faults given_now faults_now : ℕ)
       (start next : Received) → IsDone end → bytes ≡ stream_bytes sent
-      → IsToldEnd (IsDumpText (profile_of Sd) 256 (only 1) (tick ∷ [])) 256
+      → IsToldEnd (IsDumpText (asked_for (profile_of Sd) 256 (only 1) (tick ∷ [])) (tick ∷ [])) 256
       (record { left = Some bytes; given = given; faults = faults })
       (record { left = Some left; given = given_now; faults = faults_now }) start next end
       → TellsPicture script tick start.written next.written

@@ -8,6 +8,7 @@ use Rattle.dump_text.specs.DumpText.{view_text}
 use Rattle.packet_walk.specs.declared.told_end.ToldEnd.{ToldEnd}
 use Rattle.packet_walk.specs.declared.told_end.ToldEnd.TheVariants as told_end
 use Rattle.script_stream.specs.SentScripts.{IsSentFor, SentScript}
+use Rattle.shown_stream.specs.Compiled.{compiling_for}
 use Rattle.shown_stream.specs.SentSets.{sent_sets}
 use Rattle.shown_stream.specs.Shows.{authored_view}
 use Rattle.sub_base.specs.declared.profile.ProfileName.TheVariants.{Sd}
@@ -16,7 +17,7 @@ use Rattle.sub_base.specs.declared.profile.ProfileName.TheVariants.{Sd}
 -- with which a receiver can begin what the script authors
 pub record TellsPicture (script : Script) (tick : ℕ) (before now : Option (List ℕ)) : Type 0 where
   pub sent : SentScript
-  pub is_sent : IsSentFor Sd 256 1 script sent
+  pub is_sent : IsSentFor (compiling_for Sd 256 1 script) sent
   pub shown : View
   pub from : IsShownFrom (entry_set 0 (sent_sets sent.table sent.sets)) tick shown (authored_view script tick)
   pub written : Appends before now (view_text tick shown)

@@ -5,14 +5,14 @@ use Rattle.cue_list.specs.declared.limits.TheConstants.{MOST_DIGITS}
 use Rattle.cue_list.specs.declared.row_kind.RowKind.{RowKind}
 use Rattle.cue_list.specs.declared.row_kind.RowKind.TheVariants as kinds
 use Rattle.cue_list.specs.Cells.{cell_at}
-use Rattle.cue_list.specs.Past.{Past}
+use Rattle.cue_list.specs.Past.{ScriptPast}
 use Rattle.cue_list.specs.Rows.{Row}
 
 -- the tick in a row's second cell
 abbrev pub tick_in : Row → Option ℕ
 tick_in cells = number_of MOST_DIGITS (cell_at cells 1)
 
-abbrev pub tick_read : Past → RowKind → Row → Option ℕ
+abbrev pub tick_read : ScriptPast → RowKind → Row → Option ℕ
 tick_read past kinds.Epoch cells = tick_in cells
 tick_read past kinds.Place cells = tick_in cells
 tick_read past kinds.Cue cells = tick_in cells

@@ -18,7 +18,7 @@ use Rattle.cue_list.specs.declared.row_kind.RowKind.TheVariants as kinds
 use Rattle.cue_list.specs.CellFaults.{first_of, value_at, cells_fault}
 use Rattle.cue_list.specs.Cells.{cell_at}
 use Rattle.cue_list.specs.Private.Names.{place_by, named_with}
-use Rattle.cue_list.specs.Past.{Past, area, with_last, head_by, cue_by}
+use Rattle.cue_list.specs.Past.{ScriptPast, area, with_last, head_by, cue_by}
 use Rattle.cue_list.specs.Records.{Record}
 use Rattle.cue_list.specs.RowFaults.{regions_of, kind_fault}
 use Rattle.cue_list.specs.RowValues.{region_in, colour_in, head_in}
@@ -29,7 +29,7 @@ abbrev pub head_of : Picture → PictureHead
 head_of picture = record { depth = picture.depth; width = picture.width; height = picture.height }
 
 -- what a reader keeps
-abbrev pub past_of : Reader → Past
+abbrev pub past_of : Reader → ScriptPast
 past_of reader = record {
   rows = reader.rows;
   origin = reader.origin;
@@ -75,33 +75,33 @@ abbrev pub area_of : Option PictureHead → ℕ
 area_of None = 0
 area_of (Some head) = area head
 
-abbrev pub origin_next : Past → Row → Past
+abbrev pub origin_next : ScriptPast → Row → ScriptPast
 origin_next past cells = record past { origin = value_at cells 1 }
 
-abbrev pub display_next : Past → Row → Past
+abbrev pub display_next : ScriptPast → Row → ScriptPast
 display_next past cells = record past { width = value_at cells 1; height = value_at cells 2 }
 
-abbrev pub refresh_next : Past → Row → Past
+abbrev pub refresh_next : ScriptPast → Row → ScriptPast
 refresh_next past cells = record past { seconds = value_at cells 1 }
 
-abbrev pub epoch_next : Past → ℕ → Row → Past
+abbrev pub epoch_next : ScriptPast → ℕ → Row → ScriptPast
 epoch_next past number cells = record past {
   ended = with_last past.ended past.epoch;
   epoch = Some (new_epoch number cells);
   is_near = near_with (value_at cells 1) past.is_near;
 }
 
-abbrev pub region_next : Past → Row → Past
+abbrev pub region_next : ScriptPast → Row → ScriptPast
 region_next past cells = record past { epoch = option_map (with_region (region_in cells)) past.epoch }
 
-abbrev pub colour_next : Past → ℕ → Row → Past
+abbrev pub colour_next : ScriptPast → ℕ → Row → ScriptPast
 colour_next past number cells = record past {
   epoch = option_map (with_colour (colour_in number cells)) past.epoch;
   colours = past.colours + 1;
   is_near = near_with (value_at cells 1) past.is_near;
 }
 
-abbrev pub picture_next : Past → Row → Past
+abbrev pub picture_next : ScriptPast → Row → ScriptPast
 picture_next past cells = record past {
   pictures = past.pictures + 1;
   heads = past.heads ++ head_in cells ∷ [];
@@ -109,14 +109,14 @@ picture_next past cells = record past {
   named = named_with (cell_at cells 1) (length past.heads) past.named;
 }
 
-abbrev pub place_next : Past → ℕ → Row → Past
+abbrev pub place_next : ScriptPast → ℕ → Row → ScriptPast
 place_next past number cells = record past {
   epoch = option_map (with_cue (cue_by past.named (length past.heads) kinds.Place number cells)) past.epoch;
   cues = past.cues + 1;
   is_near = near_with (value_at cells 1) (near_with (value_at cells 2) past.is_near);
 }
 
-abbrev pub cue_next : FontValue → Past → ℕ → Row → Past
+abbrev pub cue_next : FontValue → ScriptPast → ℕ → Row → ScriptPast
 cue_next font past number cells = record past {
   epoch = option_map (with_cue (cue_by past.named (length past.heads) kinds.Cue number cells)) past.epoch;
   cues = past.cues + 1;
@@ -125,7 +125,7 @@ cue_next font past number cells = record past {
   is_near = near_with (value_at cells 1) (near_with (value_at cells 2) past.is_near);
 }
 
-abbrev pub next_by : FontValue → Past → RowKind → ℕ → Row → Past
+abbrev pub next_by : FontValue → ScriptPast → RowKind → ℕ → Row → ScriptPast
 next_by font past kinds.Origin number cells = origin_next past cells
 next_by font past kinds.Display number cells = display_next past cells
 next_by font past kinds.Refresh number cells = refresh_next past cells
@@ -138,17 +138,17 @@ next_by font past kinds.Cue number cells = cue_next font past number cells
 next_by font past kinds.Other number cells = past
 
 -- a record was taken
-pub record IsTaken (fault : Option ScriptKind) (kept : Past) (new : Reader) : Type 0 where
+pub record IsTaken (fault : Option ScriptKind) (kept : ScriptPast) (new : Reader) : Type 0 where
   pub reader : IsReader new
   pub right : fault ≡ None
   pub next : past_of new ≡ kept
 
 -- what is found by looking back, with one more record
-abbrev pub next_with : FontValue → Past → Record → Past
+abbrev pub next_with : FontValue → ScriptPast → Record → ScriptPast
 next_with font past row = record (next_by font past row.kind row.number row.cells) { rows = past.rows + 1 }
 
 -- the tests of a record after those of its shape and place
-abbrev pub content_fault : FontValue → Past → RowKind → ℕ → Row → Option ScriptKind
+abbrev pub content_fault : FontValue → ScriptPast → RowKind → ℕ → Row → Option ScriptKind
 content_fault font past kind number cells =
     first_of (cells_fault past.origin kind cells ∷ kind_fault font past kind number cells ∷ [])
 

@@ -7,7 +7,7 @@ use Rattle.packet_walk.specs.declared.walk.WalkEnd.{WalkEnd}
 use Rattle.sub_base.specs.Endpoints.{Received}
 use Rattle.dvbsub_cmd.specs.StreamOutcome.{status_of_end}
 use Rattle.dvbsub_cmd.specs.declared.status.Status.{Status}
-pub use Rattle.packet_walk.specs.Closing.{Finishes, HasEnded, is_whole_end}
+pub use Rattle.packet_walk.specs.Closing.{FinishesTold, HasEnded, is_whole_end}
 
 -- what a command answers by the end of its walk, once the text that waits is written
 abbrev pub ClosesEnd : Received → Received → Buffered → WalkEnd → Status → Type 0

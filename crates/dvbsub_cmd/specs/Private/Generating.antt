@@ -3,7 +3,6 @@ use Rattle.std.specs.Prelude.{◌≡◌, ℕ, ◌*◌, ◌/◌, ◌≤◌, List,
 use Rattle.std.specs.List.Sorted.{IsStrictlyIncreasing}
 use Rattle.check_text.specs.CheckText.{IsPeak}
 use Rattle.cue_list.specs.declared.script.Script.{Script}
-use Rattle.decoder_model.specs.Frames.{only}
 use Rattle.decoder_model.specs.Streams.{entered_at, entry_set}
 use Rattle.generated_script.specs.Generated.{IsGenerated}
 use Rattle.packet_source.specs.declared.limits.TheConstants.{STREAM_LIMIT}
@@ -15,9 +14,8 @@ use Rattle.shown_stream.specs.Compiled.{IsCompiledTo}
 use Rattle.shown_stream.specs.SentSets.{sent_sets}
 use Rattle.shown_stream.specs.Shows.{Shows, ShowsFrom, authored_view}
 use Rattle.stream_syntax.specs.TransportPackets.{packet_fault}
-use Rattle.sub_base.specs.Profile.{profile_of}
 use Rattle.sub_base.specs.declared.profile.ProfileName.{ProfileName}
-use Rattle.dvbsub_cmd.specs.GenText.{entry_line, entry_time, generated_page, generated_pid, number_line}
+use Rattle.dvbsub_cmd.specs.GenText.{entry_line, entry_time, generated_compiling, generated_pid, generated_reception, number_line}
 use Rattle.dvbsub_cmd.specs.declared.gen_text.Entry.{Entry}
 use Rattle.dvbsub_cmd.specs.declared.gen_text.Told.{Told}
 use Rattle.dvbsub_cmd.specs.declared.generated.Generated.{Generated}
@@ -26,7 +24,7 @@ use Rattle.dvbsub_cmd.specs.declared.generated.Generated.{Generated}
 -- and slots
 pub record IsCompiledFrom (number : ℕ) (profile : ProfileName) (made : Generated) : Type 0 where
   pub generated : IsGenerated number made.script
-  pub compiled : IsCompiledTo profile generated_pid generated_page made.script made.stream.written
+  pub compiled : IsCompiledTo (generated_compiling profile made.script) made.stream.written
   pub sets : compiled.sets ≡ made.sent.sets
   pub table : compiled.table ≡ made.sent.table
 
@@ -51,8 +49,7 @@ pub record AreTold (ticks : List ℕ) : Type 0 where
 abbrev pub AreShown : ProfileName → Script → List (List ℕ) → List ℕ → Type 0
 AreShown profile script packets ticks =
     All
-    (λ tick. Shows (profile_of profile) generated_pid (only generated_page) 0 packets tick (authored_view script tick))
-    ticks
+    (λ tick. Shows (generated_reception profile) packets tick (authored_view script tick)) ticks
 
 -- the packets in memory of a generated script, and the times of its sets. Whoever gets the packets but for the
 -- first so many shows what the script authors from the entry set on
@@ -63,7 +60,7 @@ pub record AreOf (profile : ProfileName) (made : Generated) (packets : List (Lis
   pub times_are : times ≡ map (λ (set : PlannedSet). set.pts) made.sent.sets
   pub told : AreTold times
   pub shown : (missed tick : ℕ)
-      → ShowsFrom (profile_of profile) generated_pid (only generated_page) 0 (entered_at missed packets)
+      → ShowsFrom (generated_reception profile) (entered_at missed packets)
       (entry_set missed (sent_sets made.sent.table made.sent.sets)) tick (authored_view made.script tick)
 
 -- a receiver that gets all packets but the first so many, and the time of its entry set
@@ -77,7 +74,7 @@ entry_behind made missed = record {
 pub record AreToldAs (profile : ProfileName) (made : Generated) (packets : List (List ℕ)) (told : Told) : Type 0 where
   pub sets_are : told.sets ≡ length made.sent.sets
   pub packets_are : told.packets ≡ length packets
-  pub peak_is : IsPeak (profile_of profile) generated_pid (only generated_page) 0 packets told.peak
+  pub peak_is : IsPeak (generated_reception profile) packets told.peak
   pub whole_is : told.whole ≡ entry_behind made 0
   pub third_is : told.third ≡ entry_behind made (length packets / 3)
   pub two_thirds_are : told.two_thirds ≡ entry_behind made (2 * length packets / 3)

@@ -3,11 +3,12 @@ use Rattle.std.specs.Prelude.{◌≡◌, ℕ, ◌+◌, ◌<◌, ◌^◌, false, 
 use Rattle.cue_list.specs.Rows.{Row}
 use Rattle.cue_list.specs.SeenReaders.{seen_of}
 use Rattle.cue_list.specs.TakenRows.{StandsFor, next_fault}
+use Rattle.cue_list.specs.declared.fault.ScriptKind.{ScriptKind}
 use Rattle.cue_list.specs.declared.script_reader.RecordFault.{RecordFault}
 use Rattle.cue_list.specs.declared.script_reader.RecordFault.TheVariants as record_faults
 use Rattle.shown_stream.specs.Compiled.{IsCompiledFor}
 use Rattle.live_plan.specs.LiveCalls.{HasBlocks, HasLetIn, LiveState}
-use Rattle.live_plan.specs.LiveRows.{AHEAD, Inserter, IsBatchOf, IsLetIn, IsUnplanned, IsUnscheduled, Taken, early_of, early_tick, has_epoch, is_within, records_in, row, row_fault, rows_in, taken_as}
+use Rattle.live_plan.specs.LiveRows.{AHEAD, Inserter, IsBatchOf, IsLetIn, IsUnplanned, IsUnscheduled, RowOrTick, early_of, early_tick, has_epoch, is_within, records_in, row, row_fault, rows_in, taken_as}
 use Rattle.live_plan.specs.Outlets.{OutletState}
 use Rattle.script_stream.specs.LeftPackets.{ArePacketsLeft}
 use Rattle.live_plan.specs.declared.accepted.Accepted.{Accepted}
@@ -32,13 +33,13 @@ pub record CanSend (inserter : Inserter) : Type 0 where
   pub pid : inserter.pid < 8192
 
 -- the rows that were let in are those that the reader took, and blocks of their first pictures are kept
-pub record AreAccepted (accepted : Accepted) (past : List Taken) : Type 0 where
+pub record AreAccepted (accepted : Accepted) (past : List RowOrTick) : Type 0 where
   pub stands : StandsFor accepted.font (rows_in past) (seen_of accepted.reader)
   pub blocks : HasBlocks (seen_of accepted.reader).pictures accepted.blocks
 
 -- it stands for some rows that were let in
 abbrev pub HasAccepted : Accepted → Type 0
-HasAccepted accepted = (past : List Taken) × AreAccepted accepted past
+HasAccepted accepted = (past : List RowOrTick) × AreAccepted accepted past
 
 -- ---- packets
 
@@ -48,13 +49,13 @@ record_refusal record_faults.Memory = refused.Memory
 record_refusal (record_faults.Wrong kind) = refused.Script kind
 
 -- what is left of the packets of these rows; nothing where no epoch's row is among them
-abbrev pub HasLeft : Inserter → List Taken → ℕ → Option PacketsLeft → Type 0
+abbrev pub HasLeft : Inserter → List RowOrTick → ℕ → Option PacketsLeft → Type 0
 HasLeft inserter past sent None = has_epoch (records_in past) ≡ false
 HasLeft inserter past sent (Some left) =
     (packets : List ℕ) × IsBatchOf inserter past packets × ArePacketsLeft packets sent left
 
 -- why these rows have no packets
-abbrev pub IsUnsent : Inserter → List Taken → RowFault → Type 0
+abbrev pub IsUnsent : Inserter → List RowOrTick → RowFault → Type 0
 IsUnsent inserter past refused.Memory = Unit {0}
 IsUnsent inserter past (refused.Records count) = ⊥
 IsUnsent inserter past (refused.Script kind) = ⊥
@@ -74,75 +75,63 @@ abbrev pub IsSmallTick : Option ℕ → Type 0
 IsSmallTick last = IfSome last (λ tick. tick < 2 ^ 40)
 
 -- what is left of the packets of these rows, of which the last has that first tick: it lies above the horizon
-pub record HasLeftLate (inserter : Inserter) (past : List Taken) (sent : ℕ) (first last : Option ℕ)
+pub record HasLeftLate (inserter : Inserter) (past : List RowOrTick) (sent : ℕ) (first last : Option ℕ)
     (left : Option PacketsLeft) : Type 0 where
   pub late : horizon_over first last ≡ None
   pub has_left : HasLeft inserter past sent left
 
--- why there are none: its first tick does not lie above the horizon, or these rows have no packets
-abbrev pub IsUnsentOrEarly : Inserter → List Taken → Option ℕ → Option ℕ → RowFault → Type 0
-IsUnsentOrEarly inserter past first last refused.Memory = Unit {0}
-IsUnsentOrEarly inserter past first last (refused.Records count) = ⊥
-IsUnsentOrEarly inserter past first last (refused.Script kind) = ⊥
-IsUnsentOrEarly inserter past first last (refused.Early horizon) = horizon_over first last ≡ Some horizon
-IsUnsentOrEarly inserter past first last (refused.Plan fault) =
-    (horizon_over first last ≡ None) × IsUnplanned inserter past fault
-IsUnsentOrEarly inserter past first last (refused.Schedule fault) =
-    (horizon_over first last ≡ None) × IsUnscheduled inserter past fault
+-- ---- why rows have no packets
+
+-- why the last of these rows is refused, by the fault that its record has and the horizon that it does not lie above:
+-- it has that fault; or it has none and does not lie above that horizon; or else the rows with it have no plan or no
+-- schedule
+abbrev pub IsRefusedBy : Option ScriptKind → Option ℕ → Inserter → List RowOrTick → RowFault → Type 0
+IsRefusedBy wrong early inserter rows refused.Memory = Unit {0}
+IsRefusedBy wrong early inserter rows (refused.Records count) = ⊥
+IsRefusedBy wrong early inserter rows (refused.Script kind) = wrong ≡ Some kind
+IsRefusedBy wrong early inserter rows (refused.Early horizon) = (wrong ≡ None) × (early ≡ Some horizon)
+IsRefusedBy wrong early inserter rows (refused.Plan fault) =
+    (wrong ≡ None) × (early ≡ None) × IsUnplanned inserter rows fault
+IsRefusedBy wrong early inserter rows (refused.Schedule fault) =
+    (wrong ≡ None) × (early ≡ None) × IsUnscheduled inserter rows fault
+
+-- why there are none of rows of right records, the last of which has that first tick
+abbrev pub IsUnsentOrEarly : Inserter → List RowOrTick → Option ℕ → Option ℕ → RowFault → Type 0
+IsUnsentOrEarly inserter past first last fault = IsRefusedBy None (horizon_over first last) inserter past fault
 
 -- ---- a record
 
 -- the record is taken behind these rows: it is right, lies above the horizon, and the packets with it are left
-pub record IsNextTaken (inserter : Inserter) (past : List Taken) (cells : Row) (last : Option ℕ) (sent : ℕ)
+pub record IsNextTaken (inserter : Inserter) (past : List RowOrTick) (cells : Row) (last : Option ℕ) (sent : ℕ)
     (left : Option PacketsLeft) : Type 0 where
   pub right : next_fault inserter.font (rows_in past) cells ≡ None
   pub late : horizon_over (early_tick inserter.font past cells) last ≡ None
   pub has_left : HasLeft inserter (row cells ∷ past) sent left
 
 -- why the record is refused behind these rows
-abbrev pub IsNextRefused : Inserter → List Taken → Row → Option ℕ → RowFault → Type 0
-IsNextRefused inserter past cells last refused.Memory = Unit {0}
-IsNextRefused inserter past cells last (refused.Records count) = ⊥
-IsNextRefused inserter past cells last (refused.Script kind) =
-    next_fault inserter.font (rows_in past) cells ≡ Some kind
-IsNextRefused inserter past cells last (refused.Early horizon) =
-    (next_fault inserter.font (rows_in past) cells ≡ None)
-    × (horizon_over (early_tick inserter.font past cells) last ≡ Some horizon)
-IsNextRefused inserter past cells last (refused.Plan fault) =
-    (next_fault inserter.font (rows_in past) cells ≡ None)
-    × (horizon_over (early_tick inserter.font past cells) last ≡ None)
-    × IsUnplanned inserter (row cells ∷ past) fault
-IsNextRefused inserter past cells last (refused.Schedule fault) =
-    (next_fault inserter.font (rows_in past) cells ≡ None)
-    × (horizon_over (early_tick inserter.font past cells) last ≡ None)
-    × IsUnscheduled inserter (row cells ∷ past) fault
+abbrev pub IsNextRefused : Inserter → List RowOrTick → Row → Option ℕ → RowFault → Type 0
+IsNextRefused inserter past cells last fault =
+    IsRefusedBy (next_fault inserter.font (rows_in past) cells)
+    (horizon_over (early_tick inserter.font past cells) last) inserter (row cells ∷ past) fault
 
 -- ---- a row
 
 -- why the one row of a piece is refused
-abbrev pub IsRowRefused : Inserter → List Taken → Row → RowFault → Type 0
-IsRowRefused inserter past cells refused.Memory = Unit {0}
-IsRowRefused inserter past cells (refused.Records count) = ⊥
-IsRowRefused inserter past cells (refused.Script kind) = row_fault inserter.font past cells ≡ Some kind
-IsRowRefused inserter past cells (refused.Early horizon) =
-    (row_fault inserter.font past cells ≡ None) × (early_of inserter.font past cells ≡ Some horizon)
-IsRowRefused inserter past cells (refused.Plan fault) =
-    (row_fault inserter.font past cells ≡ None) × (early_of inserter.font past cells ≡ None)
-    × IsUnplanned inserter (taken_as cells ∷ past) fault
-IsRowRefused inserter past cells (refused.Schedule fault) =
-    (row_fault inserter.font past cells ≡ None) × (early_of inserter.font past cells ≡ None)
-    × IsUnscheduled inserter (taken_as cells ∷ past) fault
+abbrev pub IsRowRefused : Inserter → List RowOrTick → Row → RowFault → Type 0
+IsRowRefused inserter past cells fault =
+    IsRefusedBy (row_fault inserter.font past cells) (early_of inserter.font past cells) inserter
+    (taken_as cells ∷ past) fault
 
 -- the answer to the one row of a piece, and what was let in before and now
-abbrev pub IsRowAnswer : Inserter → List Taken → List Taken → Row → Result Unit RowFault → Type 0
+abbrev pub IsRowAnswer : Inserter → List RowOrTick → List RowOrTick → Row → Result Unit RowFault → Type 0
 IsRowAnswer inserter past now cells (Ok done) = IsLetIn inserter past cells × (now ≡ taken_as cells ∷ past)
 IsRowAnswer inserter past now cells (Err fault) = IsRowRefused inserter past cells fault × (now ≡ past)
 
 -- a row is answered by what was let in before it, whatever that is
 abbrev pub AnswersRow : LiveState → LiveState → Row → Result Unit RowFault → Type 0
 AnswersRow old new cells answer =
-    (past : List Taken) → HasLetIn old past
-    → (now : List Taken) × IsRowAnswer old.inserter past now cells answer × HasLetIn new now
+    (past : List RowOrTick) → HasLetIn old past
+    → (now : List RowOrTick) × IsRowAnswer old.inserter past now cells answer × HasLetIn new now
 
 -- ---- live inserters
 
@@ -160,5 +149,5 @@ live_of accepted last outlet = record {
 pub record IsLive (live : LiveState) : Type 0 where
   pub sends : CanSend live.inserter
   pub small : IsSmallTick live.last
-  pub past : List Taken
+  pub past : List RowOrTick
   pub has : HasLetIn live past

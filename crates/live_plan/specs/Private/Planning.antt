@@ -8,7 +8,7 @@ use Rattle.script_stream.specs.declared.faults.SendFault.{SendFault}
 use Rattle.script_stream.specs.declared.faults.SendFault.TheVariants as send
 use Rattle.set_coder.specs.GrownBlocks.{AreBlocksOf}
 use Rattle.set_coder.specs.declared.coded_picture.KeptBlocks.{KeptBlocks}
-use Rattle.shown_stream.specs.Compiled.{IsCompiledTo}
+use Rattle.shown_stream.specs.Compiled.{IsCompiledTo, compiling_for}
 use Rattle.script_stream.specs.LeftPackets.{ArePacketsLeft}
 use Rattle.live_plan.specs.declared.faults.RowFault.{RowFault}
 use Rattle.live_plan.specs.declared.faults.RowFault.TheVariants as refused
@@ -23,7 +23,7 @@ KeepsBlocks pictures old new =
 -- what is left of a script's packets behind those that were sent
 abbrev pub IsLeftOf : Target → ℕ → Script → PacketsLeft → Type 0
 IsLeftOf target sent script left =
-    (packets : List ℕ) × IsCompiledTo target.profile target.pid target.page script packets
+    (packets : List ℕ) × IsCompiledTo (compiling_for target.profile target.pid target.page script) packets
     × ArePacketsLeft packets sent left
 
 -- why packets are refused; a record is not tested here

@@ -5,7 +5,7 @@ use Rattle.sub_base.specs.Counts.{HasRisen}
 use Rattle.sub_base.specs.Endpoints.{Received, Wrote, WrotePrefix, WroteNothing}
 use Rattle.live_plan.specs.LiveCalls.{HasLetIn}
 use Rattle.live_plan.specs.LiveOutcome.{BeginsBatch, HasDue, Runs}
-use Rattle.live_plan.specs.LiveRows.{Inserter, IsBatchOf, IsDue, Taken, has_epoch, records_in}
+use Rattle.live_plan.specs.LiveRows.{Inserter, IsBatchOf, IsDue, RowOrTick, has_epoch, records_in}
 use Rattle.live_plan.specs.declared.faults.RowFault.{RowFault}
 use Rattle.live_plan.specs.declared.faults.RowFault.TheVariants as refused
 use Rattle.live_plan.specs.declared.run.Run.{Run}
@@ -39,7 +39,7 @@ pub record IsFresh (run : Run) : Type 0 where
 -- some pieces went in before, and then further ones: the notes have the lines of all refused rows, and the output has
 -- what was due with the former, and more; the rest of what is due is owed
 pub record HasTaken (begun : Begun) (earlier further : List (List ℕ)) (out notes : Received) (run : Run) : Type 0 where
-  pub past : List Taken
+  pub past : List RowOrTick
   pub lines : List ℕ
   pub runs : Runs begun.inserter (earlier ++ further) past run.count lines
   pub let_in : HasLetIn run.live past
@@ -80,7 +80,7 @@ pub record IsHalted (begun : Begun) (earlier ahead : List (List ℕ)) (out notes
   pub further : List (List ℕ)
   pub left : List (List ℕ)
   pub parts : ahead ≡ further ++ left
-  pub past : List Taken
+  pub past : List RowOrTick
   pub count : ℕ
   pub lines : List ℕ
   pub runs : Runs begun.inserter (earlier ++ further) past count lines
@@ -118,7 +118,7 @@ IsPieceEnd begun earlier further piece out notes run answer =
 
 -- all packets of what was let in are written
 pub record IsSentWhole (begun : Begun) (earlier further : List (List ℕ)) (out notes : Received) : Type 0 where
-  pub past : List Taken
+  pub past : List RowOrTick
   pub count : ℕ
   pub lines : List ℕ
   pub runs : Runs begun.inserter (earlier ++ further) past count lines
@@ -131,7 +131,7 @@ pub record IsSentWhole (begun : Begun) (earlier further : List (List ℕ)) (out 
 
 -- no epoch's row was let in, and nothing is written
 pub record IsSentNothing (begun : Begun) (earlier further : List (List ℕ)) (out notes : Received) : Type 0 where
-  pub past : List Taken
+  pub past : List RowOrTick
   pub count : ℕ
   pub lines : List ℕ
   pub runs : Runs begun.inserter (earlier ++ further) past count lines

@@ -18,7 +18,7 @@ use Rattle.pixel_store.specs.Regions.{Regions, code_of, region_at}
 use Rattle.page_core.specs.Private.ClutSteps.{HasColours, HasRoomFor, HasRoomForCluts, IsKeptBeside}
 use Rattle.page_core.specs.Composition.{Composition, KeptRegion, region_in}
 use Rattle.page_core.specs.Handed.{AreContents}
-use Rattle.page_core.specs.Memory.{Memory, Holds, code_in, head_of, kept_listing}
+use Rattle.page_core.specs.Memory.{Memory, HoldsSegments, code_in, head_of, kept_listing}
 use Rattle.page_core.specs.Private.Walks.{IsNextOf, is_clut}
 use Rattle.page_core.proofs.ColourTables.ClutLaws.{clut_ids_with, taken_more, taken_same}
 use Rattle.page_core.proofs.Counts.DifferentItems.{more_behind}
@@ -269,7 +269,7 @@ cluts_reversed (x ∷ xs) all =
 -- ---- by the memory
 
 -- the CLUTs and colours of a memory
-pub colours_of_holds : (segments : List Content) (memory : Memory) → Holds segments memory
+pub colours_of_holds : (segments : List Content) (memory : Memory) → HoldsSegments segments memory
     → HasColours segments memory.composition memory.inks
 colours_of_holds segments memory holds = record {
   clut_ids = holds.clut_ids;
@@ -285,9 +285,9 @@ colours_of_holds segments memory holds = record {
 
 -- a memory whose CLUTs and colours alone were changed has those of the CLUT segments behind, and all else as it was
 pub holds_behind_cluts : (older set : List Content) (old new : Memory) → new.display ≡ old.display
-    → new.composition.regions ≡ old.composition.regions → new.store ≡ old.store → Holds older old
+    → new.composition.regions ≡ old.composition.regions → new.store ≡ old.store → HoldsSegments older old
     → HasColours (reverse (filter is_clut set) ++ older) new.composition new.inks
-    → Holds (reverse (filter is_clut set) ++ older) new
+    → HoldsSegments (reverse (filter is_clut set) ++ older) new
 holds_behind_cluts older set old new display regions store holds has =
     let cluts = cluts_reversed (filter is_clut set) (cluts_filtered set) in
     let mid = reverse (filter is_clut set) in
@@ -322,10 +322,10 @@ pub core_holds : (older set : List Content) (bytes : List ℕ) (inside old new :
     → ((before all : List Content) → HasColours before inside.composition inside.inks → AreContents all bytes
     → HasRoomFor (reverse (filter is_clut all) ++ before) inside.composition
     → HasColours (reverse (filter is_clut all) ++ before) new.composition new.inks)
-    → Holds older old → AreContents set bytes → HasRoomForCluts older set old
-    → Holds (reverse (filter is_clut set) ++ older) new
+    → HoldsSegments older old → AreContents set bytes → HasRoomForCluts older set old
+    → HoldsSegments (reverse (filter is_clut set) ++ older) new
 core_holds older set bytes inside old new view display regions store takes holds are room =
-    let held = subst (Holds older) (sym view) holds in
+    let held = subst (HoldsSegments older) (sym view) holds in
     let roomed = subst (HasRoomForCluts older set) (sym view) room in
     holds_behind_cluts older set inside new display regions store held
     (takes older set (colours_of_holds older inside held) are roomed)

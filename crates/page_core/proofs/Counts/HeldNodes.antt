@@ -8,7 +8,7 @@ use Rattle.decoder_model.specs.Nodes.{region_ids, clut_ids, table_entries, listi
 use Rattle.decoder_model.specs.Readings.{Content}
 use Rattle.decoder_model.specs.Taken.{taken_of, taken_region}
 use Rattle.page_core.specs.Composition.{KeptListing, KeptRegion, KeptClut, taken_nodes}
-use Rattle.page_core.specs.Memory.{Memory, Holds, kept_listing}
+use Rattle.page_core.specs.Memory.{Memory, HoldsSegments, kept_listing}
 use Rattle.page_core.proofs.Regions.KeptIds.{id_of_kept, ids_apart, found_by_id}
 
 -- ---- sums
@@ -40,7 +40,7 @@ sum_there f g (x ∷ xs) same =
 
 -- ---- what is kept
 
-module _ (segments : List Content) (memory : Memory) (holds : Holds segments memory) where
+module _ (segments : List Content) (memory : Memory) (holds : HoldsSegments segments memory) where
   pub regions_counted : length memory.composition.regions ≡ length (region_ids (taken_of segments))
   regions_counted =
       sym (length-map memory.composition.regions id_of_kept) ∙ ap length holds.region_ids

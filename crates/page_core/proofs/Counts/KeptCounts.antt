@@ -14,7 +14,7 @@ use Rattle.decoder_model.specs.Readings.{Content}
 use Rattle.decoder_model.specs.Taken.{last_region, taken_among, taken_of, taken_region}
 use Rattle.page_core.specs.Composition.{KeptClut, KeptListing, KeptRegion, region_in}
 use Rattle.page_core.specs.Private.Counting.{AreKept, clut_need, kept_need, of_taken, region_need}
-use Rattle.page_core.specs.Memory.{Holds, IsWhole, Memory, kept_listing}
+use Rattle.page_core.specs.Memory.{HoldsSegments, IsWholeMemory, Memory, kept_listing}
 use Rattle.page_core.proofs.Sets.Defining.{any_reversed}
 use Rattle.page_core.proofs.Counts.DifferentItems.{among_different, as_many_different, different_within}
 use Rattle.page_core.proofs.Counts.PixelRoom.{sum_apart}
@@ -34,7 +34,7 @@ as_long (Some kept) (Some last) listing same =
 as_long None (Some last) listing same = absurd (cc)
 as_long (Some kept) None listing same = absurd (cc)
 
-pub are_kept : (segments : List Content) (memory : Memory) → Holds segments memory
+pub are_kept : (segments : List Content) (memory : Memory) → HoldsSegments segments memory
     → AreKept segments memory.composition
 are_kept segments memory holds id = record {
   head = holds.heads id;
@@ -126,7 +126,7 @@ sum_found (kept ∷ regions) apart =
 
 -- ---- all of it
 
-pub regions_counted : (segments : List Content) (memory : Memory) → Holds segments memory
+pub regions_counted : (segments : List Content) (memory : Memory) → HoldsSegments segments memory
     → region_need (taken_among segments)
     ≡ length memory.composition.regions
     + sum_by (λ (kept : KeptRegion). length kept.listings) memory.composition.regions
@@ -149,7 +149,7 @@ regions_counted segments memory holds =
     sym (sum_reversed found ids) ∙ ap (sum_by found) (sym named) ∙ sum_found memory.composition.regions apart in
     omega (arith, count, held, sum)
 
-pub cluts_counted : (segments : List Content) (memory : Memory) → Holds segments memory
+pub cluts_counted : (segments : List Content) (memory : Memory) → HoldsSegments segments memory
     → clut_need (taken_among segments) ≡ length memory.composition.cluts + length memory.composition.set_entries
 cluts_counted segments memory holds =
     let ids = clut_ids (taken_of segments) in
@@ -159,7 +159,7 @@ cluts_counted segments memory holds =
     omega (arith, count, holds.set_count)
 
 -- as many nodes are taken, but for those of the entries of the page, as are neither free nor theirs
-pub kept_counted : (inside value : Memory) (free entries : ℕ) → inside ≡ value → IsWhole inside
+pub kept_counted : (inside value : Memory) (free entries : ℕ) → inside ≡ value → IsWholeMemory inside
     → free ≡ inside.composition.free → entries ≡ length inside.composition.entries
     → inside.profile.nodes - free - entries ≡ kept_need value.composition
 kept_counted inside value free entries view whole free_is entries_is =

@@ -12,7 +12,7 @@ use Rattle.decoder_model.specs.Readings.{Content}
 use Rattle.decoder_model.specs.Taken.{Taken, taken_of}
 use Rattle.decoder_model.specs.declared.set_fault.SetFault.TheVariants.{CompositionFull}
 use Rattle.page_core.specs.Composition.{KeptRegion}
-use Rattle.page_core.specs.Memory.{Memory, IsWhole, Holds}
+use Rattle.page_core.specs.Memory.{Memory, IsWholeMemory, HoldsSegments}
 use Rattle.page_core.specs.Private.Walks.{is_region}
 use Rattle.page_core.proofs.Counts.HeldNodes.{nodes_counted, regions_counted, listings_counted, cluts_counted}
 use Rattle.page_core.proofs.Regions.OtherSegments.{HaveSameRegions, HaveSameCluts, regions_behind, same_listings, more_cluts}
@@ -38,7 +38,8 @@ same_nodes one other page regions cluts =
     λ i. length page.entries + length (regions.ids i) + same_listings one other regions i + length (cluts.ids i)
     + length (cluts.entries i)
 
-module _ (segments : List Content) (memory : Memory) (whole : IsWhole memory) (holds : Holds segments memory) where
+module _ (segments : List Content) (memory : Memory) (whole : IsWholeMemory memory)
+    (holds : HoldsSegments segments memory) where
   -- all nodes: those of the page, of what is held, and the free ones
   pub nodes_are : memory.composition.free
       + (length memory.composition.entries + length (region_ids (taken_of segments)) + listings_held (taken_of segments)

@@ -12,7 +12,7 @@ use Rattle.page_core.specs.Private.Counting.{AreCounted, AreKept, HasRegionNeed,
 use Rattle.page_core.specs.Handed.{AreContents}
 use Rattle.page_core.specs.Private.Inks.{ink_count}
 use Rattle.page_core.specs.Private.Marks.{AreMarked}
-use Rattle.page_core.specs.Memory.{IsWhole, Memory}
+use Rattle.page_core.specs.Memory.{IsWholeMemory, Memory}
 use Rattle.page_core.specs.Private.RegionTests.{AreApart, before_regions}
 use Rattle.page_core.specs.Private.Sound.{IsSound}
 use Rattle.page_core.specs.Private.Walks.{is_clut, is_region}
@@ -42,7 +42,7 @@ no_end [] small = tt
 no_end (x ∷ xs) small = (small.0, no_end xs small.1)
 
 pub core_needs : (before : List (List Content)) (set : List Content) (bytes : List ℕ) (inside old : Memory)
-    (marks : List Mark) (page : Page) (added gone cluts : ℕ) → inside ≡ old → IsWhole inside
+    (marks : List Mark) (page : Page) (added gone cluts : ℕ) → inside ≡ old → IsWholeMemory inside
     → inside.profile.nodes < 2 ^ 31
     → AreMarked inside.composition.set_entries [] marks
     → ((older all : List Content) → AreKept older inside.composition → AreContents all bytes

@@ -21,12 +21,12 @@ use Rattle.page_core.proofs.Handed.Standings.{WaitsOrShows, waits_or_shows, no_e
 use Rattle.decoder_model.specs.declared.set_fault.SetFault.{SetFault}
 use Rattle.pixel_store.specs.Regions.{Regions}
 use Rattle.page_core.specs.Composition.{Composition, KeptRegion, KeptClut, region_in, clut_in}
-use Rattle.page_core.specs.Memory.{Memory, IsForgotten, IsSameReceiver, Forgets, Holds, Stands}
+use Rattle.page_core.specs.Memory.{Memory, IsForgotten, IsSameReceiver, Forgets, HoldsSegments, IsMemoryAfter}
 
 -- ---- nothing is known
 
 -- what is forgotten has what no segments give
-holds_nothing : (memory : Memory) → IsForgotten memory → Holds [] memory
+holds_nothing : (memory : Memory) → IsForgotten memory → HoldsSegments [] memory
 unfolding taken_among region_ids clut_ids table_entries ink_of
 holds_nothing memory forgotten =
     let is = forgotten.composition in
@@ -55,14 +55,14 @@ nothing_off n = omega arith
 -- where no epoch is known, and all is forgotten
 pub forgotten_stands : (past : List (Delivery Reading)) (memory : Memory)
     → memory.last ≡ last_time memory.anchor past → known_epoch memory.profile memory.anchor past ≡ None
-    → IsForgotten memory → Stands past memory
+    → IsForgotten memory → IsMemoryAfter past memory
 forgotten_stands past memory last none forgotten =
     record {
       last = last;
       known = forgotten.known ∙ ap is_some (sym none);
       holds =
-          subst (λ epoch. Holds (segments_of (unwrap_or epoch [])) memory) (sym none)
-          (subst (λ segments. Holds segments memory) (sym no_segments) (holds_nothing memory forgotten));
+          subst (λ epoch. HoldsSegments (segments_of (unwrap_or epoch [])) memory) (sym none)
+          (subst (λ segments. HoldsSegments segments memory) (sym no_segments) (holds_nothing memory forgotten));
       time_out = λ set before page is found. absurd (let e = sym none ∙ is in cc);
       entries = λ set before page is found. absurd (let e = sym none ∙ is in cc);
       free_nodes =
@@ -74,15 +74,15 @@ forgotten_stands past memory last none forgotten =
     }
 
 -- before the first set
-pub nothing_handed : (memory : Memory) → memory.last ≡ None → IsForgotten memory → Stands [] memory
+pub nothing_handed : (memory : Memory) → memory.last ≡ None → IsForgotten memory → IsMemoryAfter [] memory
 unfolding last_time sets_since
 nothing_handed memory none forgotten = forgotten_stands [] memory none no_epoch forgotten
 
 -- ---- one more set or loss
 
 -- after a loss
-pub loss_stands : (past : List (Delivery Reading)) (old new : Memory) → Forgets old new → Stands past old
-    → Stands (lost ∷ past) new
+pub loss_stands : (past : List (Delivery Reading)) (old new : Memory) → Forgets old new → IsMemoryAfter past old
+    → IsMemoryAfter (lost ∷ past) new
 unfolding last_time sets_since
 loss_stands past old new forgets stands =
     forgotten_stands (lost ∷ past) new
@@ -91,9 +91,9 @@ loss_stands past old new forgets stands =
 
 -- after a set that was refused, at its lifted time
 pub refused_stands : (past : List (Delivery Reading)) (pts size time : ℕ) (fault : SetFault) (old new : Memory)
-    → Stands past old → lifted_behind old.anchor (last_time old.anchor past) pts ≡ Some time
+    → IsMemoryAfter past old → lifted_behind old.anchor (last_time old.anchor past) pts ≡ Some time
     → new.last ≡ Some time → IsSameReceiver old new → IsForgotten new
-    → Stands (refused pts size fault ∷ past) new
+    → IsMemoryAfter (refused pts size fault ∷ past) new
 unfolding last_time sets_since
 refused_stands past pts size time fault old new stands lifted last same forgotten =
     let is : lifted_behind new.anchor (last_time new.anchor past) pts ≡ Some time =
@@ -107,10 +107,10 @@ refused_stands past pts size time fault old new stands lifted last same forgotte
 
 -- after a kept set that waits or is broken, where all is forgotten
 pub ended_stands : (past : List (Delivery Reading)) (pts size time : ℕ) (readings : List Reading) (end : SetEnd)
-    (old new : Memory) → Stands past old → lifted_behind old.anchor (last_time old.anchor past) pts ≡ Some time
+    (old new : Memory) → IsMemoryAfter past old → lifted_behind old.anchor (last_time old.anchor past) pts ≡ Some time
     → verdict_on_kept old.profile (sets_since old.profile old.anchor past) readings ≡ end → IsEarly end
     → new.last ≡ Some time → IsSameReceiver old new → IsForgotten new
-    → Stands (whole pts size readings ∷ past) new
+    → IsMemoryAfter (whole pts size readings ∷ past) new
 unfolding last_time sets_since
 ended_stands past pts size time readings end old new stands lifted verdict early last same forgotten =
     let sets = sets_since old.profile old.anchor past in
@@ -141,14 +141,14 @@ ended_stands past pts size time readings end old new stands lifted verdict early
 pub still_stands : (past : List (Delivery Reading)) (delivery : Delivery Reading) (memory : Memory)
     → last_time memory.anchor (delivery ∷ past) ≡ last_time memory.anchor past
     → sets_since memory.profile memory.anchor (delivery ∷ past) ≡ sets_since memory.profile memory.anchor past
-    → Stands past memory → Stands (delivery ∷ past) memory
+    → IsMemoryAfter past memory → IsMemoryAfter (delivery ∷ past) memory
 still_stands past delivery memory times sets stands =
     let same : known_epoch memory.profile memory.anchor (delivery ∷ past)
     ≡ known_epoch memory.profile memory.anchor past = ap epoch_of sets in
     record {
       last = stands.last ∙ sym times;
       known = stands.known ∙ ap is_some (sym same);
-      holds = subst (λ epoch. Holds (segments_of (unwrap_or epoch [])) memory) (sym same) stands.holds;
+      holds = subst (λ epoch. HoldsSegments (segments_of (unwrap_or epoch [])) memory) (sym same) stands.holds;
       time_out = λ set before page is found. stands.time_out set before page (sym same ∙ is) found;
       entries = λ set before page is found. stands.entries set before page (sym same ∙ is) found;
       free_nodes = stands.free_nodes ∙ ap (λ epoch. memory.profile.nodes - nodes_held epoch) (sym same);
@@ -156,8 +156,8 @@ still_stands past delivery memory times sets stands =
     }
 
 pub refused_late : (past : List (Delivery Reading)) (pts size : ℕ) (fault : SetFault) (memory : Memory)
-    → lifted_behind memory.anchor (last_time memory.anchor past) pts ≡ None → Stands past memory
-    → Stands (refused pts size fault ∷ past) memory
+    → lifted_behind memory.anchor (last_time memory.anchor past) pts ≡ None → IsMemoryAfter past memory
+    → IsMemoryAfter (refused pts size fault ∷ past) memory
 unfolding last_time sets_since
 refused_late past pts size fault memory late stands =
     still_stands past (refused pts size fault) memory
@@ -167,8 +167,8 @@ refused_late past pts size fault memory late stands =
     stands
 
 pub whole_late : (past : List (Delivery Reading)) (pts size : ℕ) (readings : List Reading) (memory : Memory)
-    → lifted_behind memory.anchor (last_time memory.anchor past) pts ≡ None → Stands past memory
-    → Stands (whole pts size readings ∷ past) memory
+    → lifted_behind memory.anchor (last_time memory.anchor past) pts ≡ None → IsMemoryAfter past memory
+    → IsMemoryAfter (whole pts size readings ∷ past) memory
 unfolding last_time sets_since
 whole_late past pts size readings memory late stands =
     still_stands past (whole pts size readings) memory
@@ -182,7 +182,7 @@ whole_late past pts size readings memory late stands =
 
 -- that of a set that is not kept
 pub late_answer : (past : List (Delivery Reading)) (pts : ℕ) (memory : Memory) (verdict answer : SetEnd)
-    → Stands past memory → lifted_behind memory.anchor (last_time memory.anchor past) pts ≡ None
+    → IsMemoryAfter past memory → lifted_behind memory.anchor (last_time memory.anchor past) pts ≡ None
     → answer ≡ NotLater (unwrap_or memory.last 0)
     → Some answer
     ≡ Some (if_kept (lifted_behind memory.anchor (last_time memory.anchor past) pts)
@@ -209,7 +209,7 @@ no_pixels = refl
 -- where all is forgotten, nothing stands before the set
 pub begun_anew : (memory : Memory) → IsForgotten memory → IsBefore [] memory
 begun_anew memory forgotten = record {
-  holds = subst (λ segments. Holds segments memory) (sym no_segments) (holds_nothing memory forgotten);
+  holds = subst (λ segments. HoldsSegments segments memory) (sym no_segments) (holds_nothing memory forgotten);
   free =
       ap (λ (s : Regions). s.free) forgotten.store ∙ nothing_off memory.profile.pixels
       ∙ ap (λ n. memory.profile.pixels - n) (sym no_pixels)

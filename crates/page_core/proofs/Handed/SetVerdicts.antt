@@ -17,7 +17,7 @@ use Rattle.decoder_model.specs.declared.set_end.SetEnd.TheVariants.{Shown}
 use Rattle.decoder_model.specs.declared.set_fault.SetFault.{SetFault}
 use Rattle.page_core.specs.Private.Accepted.{IsBefore, IsBegun}
 use Rattle.page_core.specs.Private.Judging.{fault_before_nodes}
-use Rattle.page_core.specs.Memory.{Memory, Holds, IsSameReceiver, Stands}
+use Rattle.page_core.specs.Memory.{Memory, HoldsSegments, IsSameReceiver, IsMemoryAfter}
 use Rattle.page_core.specs.Private.SetSteps.{HasEpoch}
 use Rattle.page_core.specs.declared.epoch.Start.{Start}
 use Rattle.page_core.specs.declared.epoch.Start.TheVariants.{Begins, GoesOn, Waits}
@@ -109,7 +109,7 @@ pub shown_stands : (past : List (Delivery Reading)) (pts size time : ℕ) (readi
     → epoch_of (contents_in readings ∷ sets_since old.profile old.anchor past)
     ≡ Some (contents_in readings ∷ before) → page_in_set (contents_in readings) ≡ Some page
     → new.last ≡ Some time → IsSameReceiver old new → HasEpoch (contents_in readings) before page new
-    → Stands (whole pts size readings ∷ past) new
+    → IsMemoryAfter (whole pts size readings ∷ past) new
 unfolding last_time sets_since
 shown_stands past pts size time readings before page old new lifted verdict epoch page_is last same has =
     let set = contents_in readings in
@@ -130,7 +130,7 @@ shown_stands past pts size time readings before page old new lifted verdict epoc
       last =
           last ∙ sym times ∙ ap (λ anchor. last_time anchor (whole pts size readings ∷ past)) (sym same.anchor);
       known = has.known ∙ ap is_some (sym known);
-      holds = subst (λ epoch. Holds (segments_of (unwrap_or epoch [])) new) (sym known) has.holds;
+      holds = subst (λ epoch. HoldsSegments (segments_of (unwrap_or epoch [])) new) (sym known) has.holds;
       time_out =
           λ other earlier other_page is found. has.time_out
           ∙ ap (λ (p : Page). p.time_out) (same_page other earlier other_page known is found);

@@ -12,7 +12,7 @@ use Rattle.pixel_store.specs.Regions.{Regions, region_at, code_of}
 use Rattle.page_core.specs.Composition.{Composition, KeptRegion, region_in}
 use Rattle.page_core.specs.Private.Everywhere.{AreKeptWritten, painted_kept, with_all_painted}
 use Rattle.page_core.specs.Private.Listings.{IsPainter, code_by_kept, painted_listing}
-use Rattle.page_core.specs.Memory.{Memory, IsWhole, Holds, HasSides, kept_listing, head_of}
+use Rattle.page_core.specs.Memory.{Memory, IsWholeMemory, HoldsSegments, HasSidesOf, kept_listing, head_of}
 use Rattle.page_core.specs.Private.Painted.{field_runs}
 use Rattle.page_core.specs.declared.composition.listings.Painter.{Painter}
 use Rattle.page_core.proofs.Objects.EverywhereKept.{all_at}
@@ -138,7 +138,7 @@ module _ (taken : Taken) (content : Content) (object : Object) (painter : Painte
       (last_code taken.segments id x y) 0
 
 -- the pixels behind an object, where the memory holds the segments before it
-pub pixels_behind : (segments : List Content) (memory : Memory) → IsWhole memory → Holds segments memory
+pub pixels_behind : (segments : List Content) (memory : Memory) → IsWholeMemory memory → HoldsSegments segments memory
     → (content : Content) (object : Object) (painter : Painter) → IsPainter painter object
     → content.value ≡ of_object object → (new : Regions)
     → AreKeptWritten painter content memory.composition.regions memory.store new
@@ -160,8 +160,8 @@ pixels_behind segments memory whole holds content object painter is value_is new
     by (Some region) here head listings =
         let there : Contains memory.composition.regions kept =
         found_there (λ (kept : KeptRegion). eqb kept.head.region id) memory.composition.regions kept found in
-        let sides : HasSides kept.head (region_at memory.store kept.slot)
-        = all_at (λ (kept : KeptRegion). HasSides kept.head (region_at memory.store kept.slot))
+        let sides : HasSidesOf kept.head (region_at memory.store kept.slot)
+        = all_at (λ (kept : KeptRegion). HasSidesOf kept.head (region_at memory.store kept.slot))
         memory.composition.regions kept whole.sides there in
         let same_head : kept.head ≡ region.head = cc in
         let same_listings : kept.listings ≡ map (kept_listing (taken_of segments) id) region.listings = cc in
@@ -204,7 +204,7 @@ heads_behind painter value id =
     by (Some kept) = refl
 
 -- the listings have the versions that the segments with the object give
-pub listings_behind : (segments : List Content) (memory : Memory) → Holds segments memory
+pub listings_behind : (segments : List Content) (memory : Memory) → HoldsSegments segments memory
     → (content : Content) (object : Object) (painter : Painter) → IsPainter painter object
     → content.value ≡ of_object object → (id : ℕ)
     → option_map (λ (kept : KeptRegion). kept.listings) (region_in (with_all_painted painter memory.composition) id)

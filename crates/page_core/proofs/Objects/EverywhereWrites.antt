@@ -13,7 +13,7 @@ use Rattle.decoder_model.specs.Readings.{Content}
 use Rattle.pixel_store.specs.Regions.{Regions, KeepsOthers}
 use Rattle.page_core.specs.Private.Everywhere.{HasNoFault, HasRegionAt, KeepsAt, KeepsRoom, IsWrittenIn, IsWrittenAt, painted_where, HasNoFaults, AreApart, AreWritten, HaveRegions}
 use Rattle.page_core.specs.Private.Listings.{code_by_pair}
-use Rattle.page_core.specs.Memory.{HasSides}
+use Rattle.page_core.specs.Memory.{HasSidesOf}
 use Rattle.page_core.specs.Private.Nodes.{kept_in, region_node, is_region_of, listings_list}
 use Rattle.page_core.specs.Private.Painted.{HasRegion, IsWritten, field_runs}
 use Rattle.page_core.specs.Private.ObjectFaults.{in_region, is_due_pair}
@@ -33,7 +33,7 @@ region_stays head slot changed old new keeps region = elim (cases_eq slot change
       (same_region head changed old new keeps (subst (λ (s : ℕ). HasRegion head s old) e region))
   | inr ne ↦ record {
     placed = subst (λ (n : ℕ). slot < n) (sym keeps.count) region.placed;
-    sides = subst (λ r. HasSides head r) (sym (keeps.others slot ne)) region.sides;
+    sides = subst (λ r. HasSidesOf head r) (sym (keeps.others slot ne)) region.sides;
   }
 ]
 

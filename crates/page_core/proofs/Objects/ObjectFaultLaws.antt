@@ -14,7 +14,7 @@ use Rattle.decoder_model.specs.Taken.{Taken, taken_of, taken_region}
 use Rattle.decoder_model.specs.declared.set_fault.SetFault.{SetFault}
 use Rattle.page_core.specs.Composition.{KeptRegion, region_in}
 use Rattle.page_core.specs.Private.Listings.{is_due, IsPainter}
-use Rattle.page_core.specs.Memory.{Memory, Holds, head_of, kept_listing}
+use Rattle.page_core.specs.Memory.{Memory, HoldsSegments, head_of, kept_listing}
 use Rattle.page_core.specs.Private.ObjectFaults.{least_of, in_region, fault_in_kept}
 use Rattle.page_core.specs.declared.composition.listings.Painter.{Painter}
 use Rattle.page_core.proofs.Regions.KeptIds.{ids_apart, found_by_id}
@@ -120,7 +120,7 @@ module _ (taken : Taken) (id : ℕ) (object : Object) (painter : Painter) (is : 
 
 -- ---- all regions
 
-module _ (segments : List Content) (memory : Memory) (holds : Holds segments memory) (content : Content)
+module _ (segments : List Content) (memory : Memory) (holds : HoldsSegments segments memory) (content : Content)
     (object : Object) (painter : Painter) (is : IsPainter painter object) where
   region_of_kept : (kept : KeptRegion) → Contains memory.composition.regions kept
       → fault_in_kept painter content object kept

@@ -22,7 +22,7 @@ use Rattle.page_core.proofs.Regions.RegionIds.{apart_by_ids}
 use Rattle.page_core.specs.Composition.{AreIdsApart, Composition, KeptRegion, KeptClut, region_in, clut_in, taken_nodes}
 use Rattle.page_core.specs.Private.Everywhere.{AreKeptWritten, KeepsRoom, painted_kept, with_all_painted}
 use Rattle.page_core.specs.Private.Listings.{IsPainter, painted_listing}
-use Rattle.page_core.specs.Memory.{Memory, AreInks, IsWhole, HasSides, Holds, ink_in}
+use Rattle.page_core.specs.Memory.{Memory, AreInks, IsWholeMemory, HasSidesOf, HoldsSegments, ink_in}
 use Rattle.page_core.specs.Private.ObjectFaults.{fault_in_kept, least_of}
 use Rattle.page_core.specs.Private.Painted.{HasRegion}
 use Rattle.page_core.specs.declared.composition.listings.Painter.{Painter}
@@ -49,7 +49,7 @@ slots_below from (suc n) (first ∷ regions) is kept (suc k, short, same) =
     omega (arith, slots_below (from + 1) n regions rest kept (k, omega (arith, short), same))
 
 -- all regions are where their slots say
-pub regions_there : (memory : Memory) → IsWhole memory
+pub regions_there : (memory : Memory) → IsWholeMemory memory
     → All (λ (kept : KeptRegion). HasRegion kept.head kept.slot memory.store) memory.composition.regions
 regions_there memory whole = λ k d within. record {
   placed =
@@ -99,7 +99,7 @@ pub record IsPaintedBy (painter : Painter) (old new : Memory) : Type 0 where
   pub regions : All (λ (kept : KeptRegion). HasRegion kept.head kept.slot new.store) old.composition.regions
 
 module _ (painter : Painter) (old new : Memory) (is : IsPaintedBy painter old new) where
-  pub still_whole : IsWhole old → IsWhole new
+  pub still_whole : IsWholeMemory old → IsWholeMemory new
   still_whole whole = record {
     nodes = ap (λ (c : Composition). c.size) is.composition ∙ whole.nodes ∙ ap (λ p. p.nodes) (sym is.profile);
     counted =
@@ -112,9 +112,9 @@ module _ (painter : Painter) (old new : Memory) (is : IsPaintedBy painter old ne
         ∙ slots_kept painter old.composition.regions ∙ whole.slots
         ∙ ap (range_with_len 0) (sym is.room.count);
     sides =
-        subst (λ (c : Composition). All (λ (kept : KeptRegion). HasSides kept.head (region_at new.store kept.slot))
+        subst (λ (c : Composition). All (λ (kept : KeptRegion). HasSidesOf kept.head (region_at new.store kept.slot))
         c.regions) (sym is.composition)
-        (All-map (λ (kept : KeptRegion). HasSides kept.head (region_at new.store kept.slot)) (painted_kept painter)
+        (All-map (λ (kept : KeptRegion). HasSidesOf kept.head (region_at new.store kept.slot)) (painted_kept painter)
         old.composition.regions (λ k d within. HasRegion.sides (is.regions k d within)));
     cluts =
         subst (λ (c : Composition). All (λ (kept : KeptRegion). kept.head.clut < 256) c.regions) (sym is.composition)
@@ -135,11 +135,12 @@ module _ (painter : Painter) (old new : Memory) (is : IsPaintedBy painter old ne
   }
 
   -- what a memory holds behind an object
-  pub object_step : (object : Object) (top bottom : List Part) (earlier : List Content) → IsWhole old
+  pub object_step : (object : Object) (top bottom : List Part) (earlier : List Content) → IsWholeMemory old
       → IsPainter painter object
       → AreKeptWritten painter (record { value = of_object object; top = top; bottom = bottom })
       old.composition.regions old.store new.store
-      → Holds earlier old → Holds (record { value = of_object object; top = top; bottom = bottom } ∷ earlier) new
+      → HoldsSegments earlier old
+      → HoldsSegments (record { value = of_object object; top = top; bottom = bottom } ∷ earlier) new
   unfolding taken_among region_ids clut_ids table_entries ink_of
   object_step object top bottom earlier whole by_painter written holds = record {
     display = is.display ∙ holds.display;
@@ -191,12 +192,12 @@ content_is : (content : Content) (object : Object) → of_object object ≡ cont
 content_is content object is = λ i. record { value = sym is i; top = content.top; bottom = content.bottom }
 
 pub painted_holds : (painter : Painter) (old new : Memory) (object : Object) (content : Content) (older : List Content)
-    → IsPaintedBy painter old new → IsWhole old → IsPainter painter object → of_object object ≡ content.value
-    → AreKeptWritten painter content old.composition.regions old.store new.store → Holds older old
-    → Holds (content ∷ older) new
+    → IsPaintedBy painter old new → IsWholeMemory old → IsPainter painter object → of_object object ≡ content.value
+    → AreKeptWritten painter content old.composition.regions old.store new.store → HoldsSegments older old
+    → HoldsSegments (content ∷ older) new
 painted_holds painter old new object content older painted whole by_painter is written holds =
     let same = content_is content object is in
-    subst (λ (c : Content). Holds (c ∷ older) new) (sym same)
+    subst (λ (c : Content). HoldsSegments (c ∷ older) new) (sym same)
     (object_step painter old new painted object content.top content.bottom older whole by_painter
     (subst (λ (c : Content). AreKeptWritten painter c old.composition.regions old.store new.store) same written) holds)
 
@@ -206,7 +207,8 @@ none_mapped : {X Y : Type 0} (f : X → Y) (o : Option X) → option_map f o ≡
 none_mapped f None is = refl
 none_mapped f (Some x) is = absurd (cc)
 
-module _ (older : List Content) (memory : Memory) (holds : Holds older memory) (painter : Painter) (object : Object)
+module _ (older : List Content) (memory : Memory) (holds : HoldsSegments older memory) (painter : Painter)
+    (object : Object)
     (content : Content) (by_painter : IsPainter painter object) (is : of_object object ≡ content.value)
     (bytes : All (λ (kept : KeptRegion). kept.head.region < 256) memory.composition.regions) where
   -- the fault in the regions that are kept is that of the definitions

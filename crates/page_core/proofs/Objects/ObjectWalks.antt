@@ -3,10 +3,10 @@ use Rattle.std.proofs.Common.{◌≡◌, ◌∙◌, Bool, true, false, cond, Lis
 use Rattle.std.specs.Option.{option_or}
 use Rattle.stream_syntax.specs.Segments.{Object, of_object}
 use Rattle.decoder_model.specs.Faults.{object_too_deep}
-use Rattle.decoder_model.specs.Readings.{Content, AreFields}
+use Rattle.decoder_model.specs.Readings.{Content, AreObjectFields}
 use Rattle.decoder_model.specs.declared.set_fault.SetFault.{SetFault}
 use Rattle.page_core.specs.Handed.{AreContents}
-use Rattle.page_core.specs.Memory.{Memory, Holds}
+use Rattle.page_core.specs.Memory.{Memory, HoldsSegments}
 use Rattle.page_core.specs.Private.RegionTests.{first_in}
 use Rattle.page_core.specs.Private.SetSteps.{KeepsButObjects}
 use Rattle.page_core.specs.Private.Walks.{is_object, IsNextOf}
@@ -15,17 +15,17 @@ use Rattle.page_core.proofs.Sets.Orders.{moved}
 -- a content of a set has the sub-blocks of its fields
 pub fields_there : (wanted : Content → Bool) (set more : List Content) (content : Content) (bytes : List ℕ)
     → AreContents set bytes → filter wanted set ≡ content ∷ more
-    → AreFields content.value content.top content.bottom
+    → AreObjectFields content.value content.top content.bottom
 fields_there wanted [] more content bytes are split = absurd (cc)
 fields_there wanted (first ∷ set) more content bytes (rest, begins, are) split =
     by (wanted first) split (λ later. fields_there wanted set more content rest are later)
   where
     by : (hit : Bool) → cond hit (first ∷ filter wanted set) (filter wanted set) ≡ content ∷ more
-        → (filter wanted set ≡ content ∷ more → AreFields content.value content.top content.bottom)
-        → AreFields content.value content.top content.bottom
+        → (filter wanted set ≡ content ∷ more → AreObjectFields content.value content.top content.bottom)
+        → AreObjectFields content.value content.top content.bottom
     by true is later =
         let same : first
-        ≡ content = cc in subst (λ (c : Content). AreFields c.value c.top c.bottom) same begins.is_reading.fields
+        ≡ content = cc in subst (λ (c : Content). AreObjectFields c.value c.top c.bottom) same begins.is_reading.fields
     by false is later = later is
 
 -- how far the objects are taken, with these bytes left
@@ -33,7 +33,7 @@ pub record AreTaken (older set : List Content) (memory : Memory) (bytes : List �
   pub earlier : List Content
   pub left : List Content
   pub are : AreContents left bytes
-  pub holds : Holds earlier memory
+  pub holds : HoldsSegments earlier memory
   pub fault : first_in object_too_deep older (filter is_object set)
       ≡ first_in object_too_deep earlier (filter is_object left)
   pub behind : reverse (filter is_object set) ++ older ≡ reverse (filter is_object left) ++ earlier
@@ -43,8 +43,8 @@ pub record IsNextTaken (older set : List Content) (memory : Memory) (object : Ob
   pub earlier : List Content
   pub content : Content
   pub is : of_object object ≡ content.value
-  pub fields : AreFields content.value content.top content.bottom
-  pub holds : Holds earlier memory
+  pub fields : AreObjectFields content.value content.top content.bottom
+  pub holds : HoldsSegments earlier memory
   pub more : List Content
   pub are : AreContents more rest
   pub fault : first_in object_too_deep older (filter is_object set)
@@ -53,7 +53,7 @@ pub record IsNextTaken (older set : List Content) (memory : Memory) (object : Ob
   pub behind : reverse (filter is_object set) ++ older ≡ reverse (filter is_object more) ++ (content ∷ earlier)
 
 module _ (older set : List Content) where
-  pub none_taken : (memory : Memory) (bytes : List ℕ) → Holds older memory → AreContents set bytes
+  pub none_taken : (memory : Memory) (bytes : List ℕ) → HoldsSegments older memory → AreContents set bytes
       → AreTaken older set memory bytes
   none_taken memory bytes holds are =
       record { earlier = older; left = set; are = are; holds = holds; fault = refl; behind = refl }
@@ -79,7 +79,7 @@ module _ (older set : List Content) where
 
   -- one without a fault is taken
   pub one_taken : (old new : Memory) (object : Object) (rest : List ℕ) (n : IsNextTaken older set old object rest)
-      → object_too_deep n.earlier n.content ≡ None → Holds (n.content ∷ n.earlier) new
+      → object_too_deep n.earlier n.content ≡ None → HoldsSegments (n.content ∷ n.earlier) new
       → AreTaken older set new rest
   one_taken old new object rest n none holds = record {
     earlier = n.content ∷ n.earlier;
@@ -112,9 +112,9 @@ module _ (older set : List Content) where
   pub all_taken : (memory : Memory) (bytes : List ℕ)
       → ((other : List Content) → AreContents other bytes → filter is_object other ≡ [])
       → AreTaken older set memory bytes
-      → Holds (reverse (filter is_object set) ++ older) memory
+      → HoldsSegments (reverse (filter is_object set) ++ older) memory
   all_taken memory bytes none t =
-      subst (λ (segments : List Content). Holds segments memory)
+      subst (λ (segments : List Content). HoldsSegments segments memory)
       (sym (t.behind ∙ ap (λ (contents : List Content). reverse contents ++ t.earlier) (none t.left t.are))) t.holds
 
 pub keeps_twice : {a b c : Memory} → KeepsButObjects a b → KeepsButObjects b c → KeepsButObjects a c

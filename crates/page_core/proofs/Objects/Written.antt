@@ -12,7 +12,7 @@ use Rattle.stream_syntax.specs.declared.region.Listing.{Listing}
 use Rattle.stream_syntax.specs.declared.region.RegionHead.{RegionHead}
 use Rattle.decoder_model.specs.Pixels.{is_covered, is_changed, code_by_run, code_by_field, code_by_listings, listings_naming}
 use Rattle.decoder_model.proofs.Searches.{option_or-none}
-use Rattle.pixel_store.specs.Regions.{Region, Regions, KeepsOthers, IsRunPainted, region_at, code_of}
+use Rattle.pixel_store.specs.Regions.{StoredRegion, Regions, KeepsOthers, IsRunPainted, region_at, code_of}
 use Rattle.page_core.specs.Private.Painted.{HasRegion, IsWritten, HaveCodes, FieldRuns, code_by_fields_in, field_runs}
 
 -- ---- what is kept
@@ -107,7 +107,7 @@ unchanged_run see_through listing first_row x y run unchanged = by (is_covered l
     by true = rw unchanged refl
     by false = refl
 
-module _ (see_through : Bool) (listing : Listing) (first_row left row : ℕ) (run : Run) (old new : Region)
+module _ (see_through : Bool) (listing : Listing) (first_row left row : ℕ) (run : Run) (old new : StoredRegion)
     (changed : is_changed see_through run ≡ true)
     (narrow : old.width < 2 ^ 16) (low : old.height < 2 ^ 16) (left_is : left ≡ min (listing.x + run.x) 4294967295)
     (row_is : row ≡ min (listing.y + 2 * run.line + first_row) 4294967295)

@@ -18,10 +18,10 @@ use Rattle.stream_syntax.specs.declared.page.PageEntry.{PageEntry}
 use Rattle.stream_syntax.specs.declared.region.RegionHead.{RegionHead}
 use Rattle.decoder_model.specs.Shown.{window_of, is_in_window}
 use Rattle.pixel_store.specs.Codes.{code_in as code_in_byte}
-use Rattle.pixel_store.specs.Regions.{Region, Regions, region_at, code_of as code_in_region}
+use Rattle.pixel_store.specs.Regions.{StoredRegion, Regions, region_at, code_of as code_in_region}
 use Rattle.page_core.specs.Coloured.{colour_of}
 use Rattle.page_core.specs.Composition.{Composition, KeptRegion, region_in}
-use Rattle.page_core.specs.Memory.{Memory, HasSides, IsWhole, ink_place, ink_in}
+use Rattle.page_core.specs.Memory.{Memory, HasSidesOf, IsWholeMemory, ink_place, ink_in}
 use Rattle.page_core.specs.Private.Painted.{HasRegion}
 use Rattle.page_core.specs.Rows.{colour_through, colour_by_entry, colour_at, row_in, seen_in, IsDrawnOver, colour_by_region, AreColoursOf, IsDrawing, IsKeptAs, window_at}
 use Rattle.page_core.specs.Private.Known.{IsNodeOf}
@@ -108,14 +108,14 @@ digit_below Two j byte = mod_below (byte / 2 ^ (8 - 2 * (j + 1))) 4 (omega arith
 digit_below Four j byte = mod_below (byte / 2 ^ (8 - 4 * (j + 1))) 16 (omega arith)
 digit_below Eight j byte = mod_below (byte / 2 ^ (8 - 8 * (j + 1))) 256 (omega arith)
 
-pub code_below : (region : Region) (x y : ℕ) → code_in_region region x y < code_count region.depth
+pub code_below : (region : StoredRegion) (x y : ℕ) → code_in_region region x y < code_count region.depth
 code_below region x y = digit_below region.depth _ _
 
 -- an entry whose region is there draws the region
 pub region_drawn : (memory : Memory) (window : Window) (y : ℕ) (entry : PageEntry) (kept : KeptRegion)
     (colours : List Colour) (old new : List Colour)
     → region_in memory.composition entry.region ≡ Some kept
-    → HasSides kept.head (region_at memory.store kept.slot)
+    → HasSidesOf kept.head (region_at memory.store kept.slot)
     → AreColoursOf memory.inks kept.head.clut kept.head.depth colours
     → IsDrawnOver window y
     (λ x. colour_by_region kept.head (region_at memory.store kept.slot) colours (window.left + entry.x)
@@ -171,8 +171,8 @@ pub node_drawn : (memory : Memory) (window : Window) (y : ℕ) (entry : PageEntr
     → IsDrawnOver window y (λ x. colour_by_entry memory window x y entry) old new
 node_drawn memory window y entry kept region composition store inks colours old new has found node is_region are drawn =
     region_drawn memory window y entry kept colours old new found
-    (subst (λ (head : RegionHead). HasSides head (region_at memory.store kept.slot)) node.head
-    (subst (λ (r : Region). HasSides region.head r) (λ i. region_at (sym has.pixels i) (node.slot i))
+    (subst (λ (head : RegionHead). HasSidesOf head (region_at memory.store kept.slot)) node.head
+    (subst (λ (r : StoredRegion). HasSidesOf region.head r) (λ i. region_at (sym has.pixels i) (node.slot i))
     is_region.sides))
     (subst (λ (head : RegionHead). AreColoursOf memory.inks head.clut head.depth colours) node.head
     (subst (λ (all : List Colour). AreColoursOf all region.head.clut region.head.depth colours) (sym has.colours)
@@ -180,7 +180,7 @@ node_drawn memory window y entry kept region composition store inks colours old 
     (subst (λ (head : RegionHead). IsDrawnOver window y
     (λ x. colour_by_region head (region_at memory.store kept.slot) colours (window.left + entry.x)
     (window.top + entry.y) x y) old new) node.head
-    (subst (λ (r : Region). IsDrawnOver window y
+    (subst (λ (r : StoredRegion). IsDrawnOver window y
     (λ x. colour_by_region region.head r colours (window.left + entry.x) (window.top + entry.y) x y) old new)
     (λ i. region_at (sym has.pixels i) (node.slot i)) drawn))
 
@@ -243,7 +243,7 @@ way_ends composition store inks place left row is way memory has window size =
 -- each region that is kept has its slot, with its sides and depth
 pub placed_in_order : (regions : List KeptRegion) (store : Regions)
     → map (λ (kept : KeptRegion). kept.slot) regions ≡ range_with_len 0 (length store.regions)
-    → All (λ (kept : KeptRegion). HasSides kept.head (region_at store kept.slot)) regions
+    → All (λ (kept : KeptRegion). HasSidesOf kept.head (region_at store kept.slot)) regions
     → All (λ (kept : KeptRegion). HasRegion kept.head kept.slot store) regions
 placed_in_order regions store slots sides = λ k d within.
     let slot_of : KeptRegion → ℕ = λ kept. kept.slot in
@@ -254,6 +254,6 @@ placed_in_order regions store slots sides = λ k d within.
     ∙ get_or-range_with_len 0 (length store.regions) k 0 (omega (arith, count)) ∙ omega arith in
     record { placed = omega (arith, slot, count); sides = sides k d within }
 
-pub regions_placed : (memory : Memory) → IsWhole memory
+pub regions_placed : (memory : Memory) → IsWholeMemory memory
     → All (λ (kept : KeptRegion). HasRegion kept.head kept.slot memory.store) memory.composition.regions
 regions_placed memory whole = placed_in_order memory.composition.regions memory.store whole.slots whole.sides

@@ -11,7 +11,7 @@ use Rattle.sub_base.specs.declared.colour.Colour.{Colour}
 use Rattle.stream_syntax.specs.declared.display.Window.{Window}
 use Rattle.stream_syntax.specs.declared.region.RegionHead.{RegionHead}
 use Rattle.decoder_model.specs.Shown.{is_in_window}
-use Rattle.pixel_store.specs.Regions.{Region, code_of as code_at}
+use Rattle.pixel_store.specs.Regions.{StoredRegion, code_of as code_at}
 use Rattle.page_core.specs.Coloured.{colour_of}
 use Rattle.page_core.specs.Rows.{seen_in, IsDrawnOver, colour_by_region, IsLineDrawn}
 use Rattle.sub_base.specs.Picture.{is_inside}
@@ -41,7 +41,7 @@ behind_part row part from k x long size after =
     ∙ ap (colour_of row) (omega arith)
 
 -- a line that is drawn over a part of a row
-pub drawn_within : (region : Region) (line : ℕ) (colours : List Colour) (from to : ℕ) (old now : List Colour)
+pub drawn_within : (region : StoredRegion) (line : ℕ) (colours : List Colour) (from to : ℕ) (old now : List Colour)
     → from ≤ to → to ≤ length old → length now ≡ to - from
     → ((x : ℕ) → x < to - from → colour_of now x ≡ colour_of colours (code_at region x line))
     → IsLineDrawn region line colours from to old (put_mid from (to - from) old now)
@@ -57,7 +57,7 @@ drawn_within region line colours from to old now order inside size drawn = recor
 
 -- ---- a region
 
-module _ (head : RegionHead) (region : Region) (colours : List Colour) (window : Window) (left top y : ℕ)
+module _ (head : RegionHead) (region : StoredRegion) (colours : List Colour) (window : Window) (left top y : ℕ)
     (old new : List Colour) where
   abbrev pub given : ℕ → Option Colour
   given x = colour_by_region head region colours left top x y

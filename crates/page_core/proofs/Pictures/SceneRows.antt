@@ -24,7 +24,7 @@ use Rattle.decoder_model.specs.Taken.{Taken, segments_of, taken_of, taken_region
 use Rattle.pixel_store.specs.Codes.{codes_in_byte, packed_code}
 use Rattle.pixel_store.specs.Regions.{region_at, IsPackedRow}
 use Rattle.page_core.specs.Composition.{KeptRegion, region_in}
-use Rattle.page_core.specs.Memory.{Memory, HasSides, IsWhole, Holds, head_of, code_in}
+use Rattle.page_core.specs.Memory.{Memory, HasSidesOf, IsWholeMemory, HoldsSegments, head_of, code_in}
 use Rattle.page_core.specs.Rows.{colour_in, colour_through, colour_by_entry, colour_at, row_in, picture_in, listed_in, IsLineLent}
 use Rattle.page_core.proofs.Pictures.DrawnEntries.{code_below}
 use Rattle.page_core.proofs.Pictures.Finds.{found_all}
@@ -69,7 +69,8 @@ same_last f g same [] = refl
 same_last f g same (x ∷ xs) =
     ap (λ found. option_or found (f x)) (same_last f g same xs) ∙ ap (option_or (last_given g xs)) (same x)
 
-module _ (segments : List Content) (memory : Memory) (holds : Holds segments memory) (whole : IsWhole memory)
+module _ (segments : List Content) (memory : Memory) (holds : HoldsSegments segments memory)
+    (whole : IsWholeMemory memory)
     (cluts : All (λ (kept : KeptRegion). kept.head.clut < 256) memory.composition.regions) where
   abbrev taken : Taken
   taken = taken_of segments
@@ -80,8 +81,8 @@ module _ (segments : List Content) (memory : Memory) (holds : Holds segments mem
       → x < kept.head.width → y < kept.head.height
       → colour_in memory kept x y ≡ shown.colour_in taken region x y
   same_colour id x y kept region found found_too same narrow low =
-      let sides : HasSides kept.head (region_at memory.store kept.slot)
-      = found_all (λ (kept : KeptRegion). HasSides kept.head (region_at memory.store kept.slot))
+      let sides : HasSidesOf kept.head (region_at memory.store kept.slot)
+      = found_all (λ (kept : KeptRegion). HasSidesOf kept.head (region_at memory.store kept.slot))
       (λ (kept : KeptRegion). eqb kept.head.region id) memory.composition.regions kept whole.sides found in
       let clut : kept.head.clut < 256 =
       found_all (λ (kept : KeptRegion). kept.head.clut < 256) (λ (kept : KeptRegion). eqb kept.head.region id)
@@ -166,8 +167,8 @@ module _ (segments : List Content) (memory : Memory) (holds : Holds segments mem
       → line < kept.head.height → IsPackedRow (region_at memory.store kept.slot) line bytes
       → ArePacked region.head.depth (codes_of_line taken region line) bytes
   codes_of_region id line kept region bytes found found_too same low row =
-      let sides : HasSides kept.head (region_at memory.store kept.slot)
-      = found_all (λ (kept : KeptRegion). HasSides kept.head (region_at memory.store kept.slot))
+      let sides : HasSidesOf kept.head (region_at memory.store kept.slot)
+      = found_all (λ (kept : KeptRegion). HasSidesOf kept.head (region_at memory.store kept.slot))
       (λ (kept : KeptRegion). eqb kept.head.region id) memory.composition.regions kept whole.sides found in
       let depth : (region_at memory.store kept.slot).depth ≡ region.head.depth =
       sides.depth ∙ ap (λ (head : RegionHead). head.depth) same in
@@ -221,8 +222,9 @@ module _ (segments : List Content) (memory : Memory) (holds : Holds segments mem
 -- ---- the page of an epoch
 
 -- the rows of the memory of an epoch, with a page's entries, are those of its scene
-pub row_of_page : (epoch : List (List Content)) (page : Page) (memory : Memory) → Holds (segments_of epoch) memory
-    → IsWhole memory → All (λ (kept : KeptRegion). kept.head.clut < 256) memory.composition.regions
+pub row_of_page : (epoch : List (List Content)) (page : Page) (memory : Memory)
+    → HoldsSegments (segments_of epoch) memory
+    → IsWholeMemory memory → All (λ (kept : KeptRegion). kept.head.clut < 256) memory.composition.regions
     → memory.composition.entries ≡ page.entries → (y : ℕ) → row_in memory y ≡ row_of (scene_in epoch page) y
 row_of_page epoch page memory holds whole cluts same y =
     same_row (segments_of epoch) memory holds whole cluts y
@@ -236,7 +238,7 @@ row_of_page epoch page memory holds whole cluts same y =
 
 -- and so is the whole picture
 pub picture_of_page : (epoch : List (List Content)) (page : Page) (memory : Memory)
-    → Holds (segments_of epoch) memory → IsWhole memory
+    → HoldsSegments (segments_of epoch) memory → IsWholeMemory memory
     → All (λ (kept : KeptRegion). kept.head.clut < 256) memory.composition.regions
     → memory.composition.entries ≡ page.entries → picture_in memory ≡ (plane_of (scene_in epoch page)).colours
 picture_of_page epoch page memory holds whole cluts same =
@@ -250,8 +252,9 @@ picture_of_page epoch page memory holds whole cluts same =
     })).colours) same
 
 -- what is lent of a line is what its scene has there
-pub line_of_page : (epoch : List (List Content)) (page : Page) (memory : Memory) → Holds (segments_of epoch) memory
-    → IsWhole memory → All (λ (kept : KeptRegion). kept.head.clut < 256) memory.composition.regions
+pub line_of_page : (epoch : List (List Content)) (page : Page) (memory : Memory)
+    → HoldsSegments (segments_of epoch) memory
+    → IsWholeMemory memory → All (λ (kept : KeptRegion). kept.head.clut < 256) memory.composition.regions
     → memory.composition.entries ≡ page.entries → (id line : ℕ) (bytes : Option (List ℕ))
     → IsLineLent memory (listed_in memory id) line bytes
     → IsPackedLine (taken_of (segments_of epoch)) (listed_region (scene_in epoch page) id) line bytes

@@ -12,7 +12,7 @@ use Rattle.decoder_model.specs.Readings.{Content}
 use Rattle.decoder_model.specs.Taken.{taken_among}
 use Rattle.page_core.specs.Composition.{KeptRegion}
 use Rattle.page_core.specs.Private.Everywhere.{AreIdsApart}
-use Rattle.page_core.specs.Memory.{Memory, Holds}
+use Rattle.page_core.specs.Memory.{Memory, HoldsSegments}
 use Rattle.page_core.proofs.Sets.Defining.{any_reversed}
 use Rattle.page_core.proofs.Objects.EverywhereKept.{none_has}
 use Rattle.page_core.proofs.Counts.PixelRoom.{id_among_different, turned}
@@ -68,7 +68,7 @@ apart_by_ids (kept ∷ regions) distinct =
     (among_ids kept.head.region regions ∙ distinct.0, apart_by_ids regions distinct.1)
 
 -- no two regions that are kept have one id
-pub ids_apart : (segments : List Content) (memory : Memory) → Holds segments memory
+pub ids_apart : (segments : List Content) (memory : Memory) → HoldsSegments segments memory
     → AreIdsApart memory.composition.regions
 unfolding region_ids
 ids_apart segments memory holds =

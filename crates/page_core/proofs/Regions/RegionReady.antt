@@ -20,7 +20,7 @@ use Rattle.pixel_store.specs.Regions.{Regions, region_at}
 use Rattle.page_core.specs.Composition.{Composition, KeptListing, KeptRegion}
 use Rattle.page_core.specs.Composition.{region_in as kept_in}
 use Rattle.page_core.specs.Handed.{AreContents}
-use Rattle.page_core.specs.Memory.{HasSides, head_of, kept_listing}
+use Rattle.page_core.specs.Memory.{HasSidesOf, head_of, kept_listing}
 use Rattle.page_core.specs.Private.Painted.{HasRegion, IsWritten}
 use Rattle.page_core.specs.Private.RegionSteps.{AreReady, AreStored, AwaitRegions, IsNewRegion, IsRegionTaken, IsTakenAgain, awaited, is_renewed, nodes_needed_by, nodes_needed_for, with_regions_of}
 use Rattle.page_core.specs.Private.RegionTests.{AreApart, first_in, is_new}
@@ -162,7 +162,7 @@ module _ (taken : Taken) (left : List Content) (content : Content) (region : Reg
       (again_looked_up old region.head is.kept region.listings is.known empty) in
       let placed = region_again old before region.head is.kept stored is.known shape in
       let sides =
-      found_all (λ (kept : KeptRegion). HasSides kept.head (region_at before kept.slot))
+      found_all (λ (kept : KeptRegion). HasSidesOf kept.head (region_at before kept.slot))
       (λ (kept : KeptRegion). kept.head.region == region.head.region) old.regions is.kept stored.sides is.known in
       await_taken taken left content region value is.kept.slot old new before after apart looked
       (ap (λ (c : Composition). map (λ (kept : KeptRegion). kept.head.region) c.regions) is.composition

@@ -13,7 +13,7 @@ use Rattle.decoder_model.specs.Readings.{Content}
 use Rattle.decoder_model.specs.Taken.{Taken, taken_of, taken_region}
 use Rattle.pixel_store.specs.Regions.{Regions, code_of, region_at}
 use Rattle.page_core.specs.Composition.{AreIdsApart, Composition, KeptRegion, region_in}
-use Rattle.page_core.specs.Memory.{Holds, IsWhole, Memory, head_of, kept_listing}
+use Rattle.page_core.specs.Memory.{HoldsSegments, IsWholeMemory, Memory, head_of, kept_listing}
 use Rattle.page_core.specs.Private.RegionSteps.{AreBare, AreReady, AreRegionsRight, AreStored, AwaitRegions, KeepsBesideRegions, awaited, bare_by, bare_where, is_renewed, listings_kept}
 use Rattle.page_core.specs.Private.RegionTests.{AreApart}
 use Rattle.page_core.specs.Private.Walks.{is_region}
@@ -39,7 +39,7 @@ bare_slot set kept = by (is_renewed set kept.head)
 bare_id : (set : List Content) (kept : KeptRegion) → (bare_by set kept).head.region ≡ kept.head.region
 bare_id set kept = ap (λ (head : RegionHead). head.region) (bare_head set kept)
 
-module _ (older set : List Content) (memory : Memory) (composition : Composition) (holds : Holds older memory)
+module _ (older set : List Content) (memory : Memory) (composition : Composition) (holds : HoldsSegments older memory)
     (bared : AreBare set memory.composition composition) where
   found_is : (id : ℕ) → region_in composition id ≡ option_map (bare_by set) (region_in memory.composition id)
   found_is id =
@@ -204,8 +204,8 @@ listings_counted taken set composition store await apart =
         cc in ap length same ∙ awaited_count id (is_renewed set region.head) region.listings
 
 -- the regions of a set can be taken
-pub ready_begins : (older set : List Content) (memory : Memory) (composition : Composition) → Holds older memory
-    → IsWhole memory → AreApart [] (filter is_region set) → AreRegionsRight older set memory
+pub ready_begins : (older set : List Content) (memory : Memory) (composition : Composition) → HoldsSegments older memory
+    → IsWholeMemory memory → AreApart [] (filter is_region set) → AreRegionsRight older set memory
     → AreBare (filter is_region set) memory.composition composition
     → KeepsBesideRegions memory.composition composition → AreStored composition memory.store
     → AreReady memory.profile older (filter is_region set) composition memory.store

@@ -16,7 +16,7 @@ use Rattle.page_core.specs.Composition.{Composition, KeptClut}
 use Rattle.page_core.specs.Cores.{IsCore}
 use Rattle.page_core.specs.Private.Marks.{AreMarked}
 use Rattle.page_core.specs.declared.marks.Mark.{Mark}
-use Rattle.page_core.specs.Memory.{IsDisplayOf, AreInks, Holds, IsWhole, Memory, ink_in}
+use Rattle.page_core.specs.Memory.{IsDisplayOf, AreInks, HoldsSegments, IsWholeMemory, Memory, ink_in}
 use Rattle.page_core.specs.Private.RegionSteps.{AreStored, AwaitRegions, KeepsBesideRegions, KeepsButRegions}
 use Rattle.page_core.proofs.Sets.Orders.{moved}
 use Rattle.page_core.proofs.Counts.PixelRoom.{of_segments}
@@ -99,10 +99,10 @@ regions_beside (content ∷ regions) older are =
 
 -- ---- the memory
 
-pub held_behind : (older regions : List Content) (old new : Memory) → Holds older old → AreRegions regions
+pub held_behind : (older regions : List Content) (old new : Memory) → HoldsSegments older old → AreRegions regions
     → KeepsButRegions old new
     → AwaitRegions (taken_of (reverse regions ++ older)) [] new.composition new.store
-    → Holds (reverse regions ++ older) new
+    → HoldsSegments (reverse regions ++ older) new
 held_behind older regions old new holds are keeps await =
     let same = regions_beside regions older are in
     record {
@@ -152,7 +152,7 @@ core_behind old new marks core keeps stored size = record {
       (subst (IsDisplayOf old.profile) (sym keeps.display) core.display);
 }
 
-pub stored_whole : (memory : Memory) → IsWhole memory → AreStored memory.composition memory.store
+pub stored_whole : (memory : Memory) → IsWholeMemory memory → AreStored memory.composition memory.store
 stored_whole memory whole =
     record {
       counted = whole.counted;

@@ -15,9 +15,9 @@ use Rattle.stream_syntax.specs.declared.region.Listing.{Listing}
 use Rattle.stream_syntax.specs.declared.region.RegionHead.{RegionHead}
 use Rattle.decoder_model.specs.Faults.{has_same_shape}
 use Rattle.pixel_store.specs.Regions.{KeepsOthers, PlacesOne, Regions, region_at}
-use Rattle.pixel_store.specs.Regions.{Region as StoredRegion}
+use Rattle.pixel_store.specs.Regions.{StoredRegion}
 use Rattle.page_core.specs.Composition.{Composition, KeptRegion, region_in}
-use Rattle.page_core.specs.Memory.{HasSides}
+use Rattle.page_core.specs.Memory.{HasSidesOf}
 use Rattle.page_core.specs.Private.Painted.{HasRegion}
 use Rattle.page_core.specs.Private.RegionSteps.{AreStored, IsRightHead, changed_at, fresh, headed, listing_more, with_head, with_listings, with_region, with_regions}
 use Rattle.page_core.proofs.Pictures.DrawnEntries.{placed_in_order}
@@ -43,7 +43,7 @@ module _ (composition : Composition) (store : Regions) (stored : AreStored compo
   pub stored_with : (change : KeptRegion → KeptRegion)
       → ((other : KeptRegion) → other.head.region ≡ id → (change other).head.region ≡ id)
       → ((other : KeptRegion) → (change other).slot ≡ other.slot)
-      → HasSides (change kept).head (region_at store (change kept).slot) → (change kept).head.clut < 256
+      → HasSidesOf (change kept).head (region_at store (change kept).slot) → (change kept).head.clut < 256
       → (change kept).head.region < 256
       → (free : ℕ) → free + length (change kept).listings ≡ composition.free + length kept.listings
       → AreStored (with_regions (map (changed_at id change) composition.regions) free composition) store
@@ -57,7 +57,7 @@ module _ (composition : Composition) (store : Regions) (stored : AreStored compo
     );
     slots = slots_kept id change same_slot composition.regions ∙ stored.slots;
     sides =
-        all_with id change kept (λ (kept : KeptRegion). HasSides kept.head (region_at store kept.slot))
+        all_with id change kept (λ (kept : KeptRegion). HasSidesOf kept.head (region_at store kept.slot))
         composition.regions found stored.apart sides stored.sides;
     cluts =
         all_with id change kept (λ (kept : KeptRegion). kept.head.clut < 256) composition.regions found stored.apart
@@ -71,19 +71,19 @@ module _ (composition : Composition) (store : Regions) (stored : AreStored compo
 -- ---- what is written to one region
 
 sides_kept : (slot : ℕ) (old new : Regions) → KeepsOthers slot old new → (kept : KeptRegion)
-    → HasSides kept.head (region_at old kept.slot) → HasSides kept.head (region_at new kept.slot)
+    → HasSidesOf kept.head (region_at old kept.slot) → HasSidesOf kept.head (region_at new kept.slot)
 sides_kept slot old new keeps kept sides = elim (cases_eq kept.slot slot) [
   | inl same ↦
-      let here : HasSides kept.head (region_at old slot) =
-      subst (λ n. HasSides kept.head (region_at old n)) same sides in
-      subst (λ n. HasSides kept.head (region_at new n)) (sym same)
+      let here : HasSidesOf kept.head (region_at old slot) =
+      subst (λ n. HasSidesOf kept.head (region_at old n)) same sides in
+      subst (λ n. HasSidesOf kept.head (region_at new n)) (sym same)
       (record {
         width = keeps.width ∙ here.width;
         height = keeps.height ∙ here.height;
         depth = keeps.depth
             ∙ here.depth;
       })
-  | inr other ↦ subst (λ r. HasSides kept.head r) (sym (keeps.others kept.slot other)) sides
+  | inr other ↦ subst (λ r. HasSidesOf kept.head r) (sym (keeps.others kept.slot other)) sides
 ]
 
 pub stored_written : (composition : Composition) (slot : ℕ) (old new : Regions) → KeepsOthers slot old new
@@ -143,8 +143,8 @@ module _ (composition : Composition) (old new : Regions) (head : RegionHead) (sl
   stored_with_region none room clut low =
       let one : KeptRegion = record { head = head; slot = slot; listings = [] } in
       let in_order = placed_in_order composition.regions old stored.slots stored.sides in
-      let before : All (λ (kept : KeptRegion). HasSides kept.head (region_at new kept.slot)) composition.regions =
-      λ k d within. subst (λ r. HasSides (get_or composition.regions k d).head r)
+      let before : All (λ (kept : KeptRegion). HasSidesOf kept.head (region_at new kept.slot)) composition.regions =
+      λ k d within. subst (λ r. HasSidesOf (get_or composition.regions k d).head r)
       (sym (placed.kept (get_or composition.regions k d).slot (in_order k d within).placed))
       (stored.sides k d within) in
       record {
@@ -165,10 +165,10 @@ module _ (composition : Composition) (old new : Regions) (head : RegionHead) (sl
             ∙ ap (range_with_len 0)
             (let same : suc (length old.regions) ≡ length new.regions = omega (arith, placed.count) in same);
         sides =
-            All-append (λ (kept : KeptRegion). HasSides kept.head (region_at new kept.slot)) composition.regions
+            All-append (λ (kept : KeptRegion). HasSidesOf kept.head (region_at new kept.slot)) composition.regions
             (one ∷ []) before
-            (All-cons (λ (kept : KeptRegion). HasSides kept.head (region_at new kept.slot)) one [] one_placed.sides
-            (All-nil (λ (kept : KeptRegion). HasSides kept.head (region_at new kept.slot))));
+            (All-cons (λ (kept : KeptRegion). HasSidesOf kept.head (region_at new kept.slot)) one [] one_placed.sides
+            (All-nil (λ (kept : KeptRegion). HasSidesOf kept.head (region_at new kept.slot))));
         cluts = All-append (λ (kept : KeptRegion). kept.head.clut < 256) composition.regions (one ∷ []) stored.cluts
             (All-cons (λ (kept : KeptRegion). kept.head.clut < 256) one [] clut
             (All-nil (λ (kept : KeptRegion). kept.head.clut < 256)));
@@ -199,7 +199,7 @@ pub stored_with_listings : (composition : Composition) (store : Regions) (id : �
     → length listings ≤ composition.free → AreStored (with_listings id listings composition) store
 stored_with_listings composition store id kept listings stored found room =
     stored_with composition store stored id kept found (listing_more listings) (λ other same. same) (λ other. refl)
-    (found_all (λ (kept : KeptRegion). HasSides kept.head (region_at store kept.slot))
+    (found_all (λ (kept : KeptRegion). HasSidesOf kept.head (region_at store kept.slot))
     (λ (kept : KeptRegion). kept.head.region == id) composition.regions kept stored.sides found)
     (found_all (λ (kept : KeptRegion). kept.head.clut < 256) (λ (kept : KeptRegion). kept.head.region == id)
     composition.regions kept stored.cluts found)
@@ -225,7 +225,7 @@ same_depth Eight Eight is = refl
 
 -- a head of the same size and depth has the sides that another one has
 pub same_sides : (head last : RegionHead) (region : StoredRegion) → has_same_shape head last ≡ true
-    → HasSides last region → HasSides head region
+    → HasSidesOf last region → HasSidesOf head region
 same_sides head last region is sides =
     let first =
     both (head.width == last.width) ((head.height == last.height) && (bits_of head.depth == bits_of last.depth)) is

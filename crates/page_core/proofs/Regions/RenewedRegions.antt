@@ -11,7 +11,7 @@ use Rattle.pixel_store.specs.Regions.{Regions, region_at}
 use Rattle.page_core.specs.Composition.{AreIdsApart, Composition, KeptRegion}
 use Rattle.page_core.specs.Composition.{region_in as kept_in}
 use Rattle.page_core.specs.Handed.{AreContents}
-use Rattle.page_core.specs.Memory.{HasSides}
+use Rattle.page_core.specs.Memory.{HasSidesOf}
 use Rattle.page_core.specs.Private.RegionSteps.{AreBare, AreStored, KeepsBesideRegions, bare, bare_by, bare_where, changed_at, cleared_where, count_kept, is_renewed, renews, takes_place}
 use Rattle.page_core.specs.Private.RegionTests.{head_in, is_new}
 use Rattle.page_core.specs.Private.Walks.{IsNextOf, is_region}
@@ -85,7 +85,7 @@ stored_cleared head old new store is stored =
         let known = known_by head (kept_in old head.region) hit in
         let kept = known.0 in
         stored_with old store stored head.region kept known.1 bare (λ other same. same) (λ other. refl)
-        (found_all (λ (kept : KeptRegion). HasSides kept.head (region_at store kept.slot))
+        (found_all (λ (kept : KeptRegion). HasSidesOf kept.head (region_at store kept.slot))
         (λ (kept : KeptRegion). kept.head.region == head.region) old.regions kept stored.sides known.1)
         (found_all (λ (kept : KeptRegion). kept.head.clut < 256)
         (λ (kept : KeptRegion). kept.head.region == head.region) old.regions kept stored.cluts known.1)

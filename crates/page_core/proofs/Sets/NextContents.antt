@@ -12,7 +12,7 @@ use Rattle.segments.specs.Contents.{contents}
 use Rattle.segments.specs.Framing.{IsFrameOf}
 use Rattle.segments.specs.declared.reading.Segment.{Segment}
 use Rattle.segments.proofs.Readings.{kind_of_segment}
-use Rattle.page_core.specs.Handed.{AreContents, IsCutOff}
+use Rattle.page_core.specs.Handed.{AreContents, IsFrameCutOff}
 use Rattle.page_core.specs.Private.Walks.{is_of, is_content_of, is_object, IsNextFront, IsNextOf, IsLeftOf}
 use Rattle.page_core.specs.declared.front.Front.{Front as Cut}
 
@@ -45,7 +45,7 @@ pub record Front (kind : ℕ) (set : List Content) (front : Cut) : Type 0 where
 front_by : (kind : ℕ) (set : List Content) (bytes : List ℕ) (front : Cut) (left : List Content)
     → (IsPassedOver kind → ⊥) → length front.rest.now < length bytes
     → ((reading : Reading) (behind : List ℕ) → BeginsWith bytes reading behind
-    → IsCutOff reading behind front) → AreContents left bytes
+    → IsFrameCutOff reading behind front) → AreContents left bytes
     → filter (is_content_of kind) set ≡ filter (is_content_of kind) left → Front kind set front
 front_by kind set bytes front [] known shorter cut none same = absurd (omega (arith, ap length none))
 front_by kind set bytes front (content ∷ more) known shorter cut (behind, begins, are) same =
@@ -67,7 +67,7 @@ front_by kind set bytes front (content ∷ more) known shorter cut (behind, begi
 pub front_of : (kind : ℕ) (set : List Content) (bytes : List ℕ) (front : Cut) → (IsPassedOver kind → ⊥)
     → length front.rest.now < length bytes
     → ((reading : Reading) (behind : List ℕ) → BeginsWith bytes reading behind
-    → IsCutOff reading behind front) → IsLeftOf (is_content_of kind) set bytes → Front kind set front
+    → IsFrameCutOff reading behind front) → IsLeftOf (is_content_of kind) set bytes → Front kind set front
 front_of kind set bytes front known shorter cut l = front_by kind set bytes front l.left known shorter cut l.are l.same
 
 -- one of another type is passed over

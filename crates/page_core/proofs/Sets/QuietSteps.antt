@@ -15,7 +15,7 @@ use Rattle.stream_syntax.specs.PixelBlocks.{Part}
 use Rattle.decoder_model.specs.Pixels.{pixel_of, version_of_object}
 use Rattle.decoder_model.specs.Readings.{Content}
 use Rattle.decoder_model.specs.Taken.{Taken, taken_among, taken_of, taken_region}
-use Rattle.page_core.specs.Memory.{Memory, Holds, kept_listing, showing}
+use Rattle.page_core.specs.Memory.{Memory, HoldsSegments, kept_listing, showing}
 use Rattle.page_core.specs.Composition.{KeptListing}
 use Rattle.page_core.specs.Private.RegionTests.{before_regions}
 
@@ -49,8 +49,9 @@ listings_by taken other id found same =
     λ i. option_map (λ (region : Region). map (λ listing. sym (same listing) i) region.listings) found
 
 -- a page changes nothing that is kept of segments
-page_step : (page : Page) (top bottom : List Part) (earlier : List Content) (memory : Memory) → Holds earlier memory
-    → Holds (record { value = of_page page; top = top; bottom = bottom } ∷ earlier) memory
+page_step : (page : Page) (top bottom : List Part) (earlier : List Content) (memory : Memory)
+    → HoldsSegments earlier memory
+    → HoldsSegments (record { value = of_page page; top = top; bottom = bottom } ∷ earlier) memory
 unfolding taken_among region_ids clut_ids table_entries pixel_of ink_of
 page_step page top bottom earlier memory holds = record {
   display = holds.display;
@@ -72,8 +73,9 @@ page_step page top bottom earlier memory holds = record {
 
 -- and a display nothing but the display
 display_step : (display : Display) (top bottom : List Part) (earlier : List Content) (memory : Memory)
-    → Holds earlier memory
-    → Holds (record { value = of_display display; top = top; bottom = bottom } ∷ earlier) (showing display memory)
+    → HoldsSegments earlier memory
+    → HoldsSegments (record { value = of_display display; top = top; bottom = bottom } ∷ earlier)
+    (showing display memory)
 unfolding taken_among region_ids clut_ids table_entries pixel_of ink_of
 display_step display top bottom earlier memory holds = record {
   display = refl;
@@ -96,8 +98,8 @@ display_step display top bottom earlier memory holds = record {
 }
 
 -- with the display of its segments a memory is what it was
-same_display : (segments : List Content) (memory : Memory) → Holds segments memory
-    → Holds segments (showing (display_in_force segments) memory)
+same_display : (segments : List Content) (memory : Memory) → HoldsSegments segments memory
+    → HoldsSegments segments (showing (display_in_force segments) memory)
 same_display segments memory holds = record {
   display = refl;
   region_ids = holds.region_ids;
@@ -126,8 +128,8 @@ AreQuiet [] = Unit {0}
 AreQuiet (content ∷ contents) = IsQuietValue content.value × AreQuiet contents
 
 one_step : (value : SegmentValue) (top bottom : List Part) (earlier : List Content) (memory : Memory)
-    → IsQuietValue value → Holds earlier (showing (display_in_force earlier) memory)
-    → Holds (record { value = value; top = top; bottom = bottom } ∷ earlier)
+    → IsQuietValue value → HoldsSegments earlier (showing (display_in_force earlier) memory)
+    → HoldsSegments (record { value = value; top = top; bottom = bottom } ∷ earlier)
     (showing (display_in_force (record { value = value; top = top; bottom = bottom } ∷ earlier)) memory)
 one_step (of_page page) top bottom earlier memory quiet holds =
     page_step page top bottom earlier (showing (display_in_force earlier) memory) holds
@@ -140,8 +142,8 @@ one_step end_of_set top bottom earlier memory quiet holds = absurd quiet
 one_step passed_over top bottom earlier memory quiet holds = absurd quiet
 
 -- behind pages and displays a memory holds what it held, with their display
-pub quiet_behind : (mid base : List Content) (memory : Memory) → AreQuiet mid → Holds base memory
-    → Holds (mid ++ base) (showing (display_in_force (mid ++ base)) memory)
+pub quiet_behind : (mid base : List Content) (memory : Memory) → AreQuiet mid → HoldsSegments base memory
+    → HoldsSegments (mid ++ base) (showing (display_in_force (mid ++ base)) memory)
 quiet_behind [] base memory quiet holds = same_display base memory holds
 quiet_behind (content ∷ mid) base memory quiet holds =
     one_step content.value content.top content.bottom (mid ++ base) memory quiet.0
@@ -188,8 +190,8 @@ quiet_display end_of_set is = absurd (cc)
 quiet_display passed_over is = absurd (cc)
 
 -- with the display and the page of a set a memory holds what it held, and shows the display that is in force then
-pub before_regions_hold : (older set : List Content) (memory : Memory) → Holds older memory
-    → Holds (before_regions older set) (showing (display_in_force (before_regions older set)) memory)
+pub before_regions_hold : (older set : List Content) (memory : Memory) → HoldsSegments older memory
+    → HoldsSegments (before_regions older set) (showing (display_in_force (before_regions older set)) memory)
 before_regions_hold older set memory holds =
     let displays = filter (λ content. is_some (display_of content)) set in
     let pages = filter (λ content. is_some (page_of content)) set in

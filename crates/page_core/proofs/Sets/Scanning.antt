@@ -13,7 +13,7 @@ use Rattle.segments.specs.Contents.{contents}
 use Rattle.segments.specs.Framing.{IsFrameOf}
 use Rattle.segments.specs.declared.reading.Segment.{Segment}
 use Rattle.page_core.specs.declared.seen.Seen.{Seen}
-use Rattle.page_core.specs.Handed.{Matches, IsCutOff}
+use Rattle.page_core.specs.Handed.{Matches, IsFrameCutOff}
 use Rattle.page_core.specs.declared.front.Front.{Front}
 use Rattle.page_core.specs.Private.Seen.{AreFlags, Sees, Progress, page_with, display_with, defines, fault_behind}
 
@@ -28,7 +28,7 @@ Reads bytes found rest = (reading : Reading) (behind : List ℕ) → BeginsWith 
 
 -- as the front of bytes is cut off and read
 pub reads_front : (bytes : List ℕ) (front : Front) (found : Result Segment SegmentFault)
-    → ((reading : Reading) (behind : List ℕ) → BeginsWith bytes reading behind → IsCutOff reading behind front)
+    → ((reading : Reading) (behind : List ℕ) → BeginsWith bytes reading behind → IsFrameCutOff reading behind front)
     → ((segment : List ℕ) (reading : Reading) → IsFrameOf segment front.frame → IsReading segment reading
     → Matches found reading) → Reads bytes found front.rest.now
 reads_front bytes front found cut one reading behind begins =

@@ -12,7 +12,7 @@ use Rattle.page_core.specs.Private.ClutSteps.{HasRoomForCluts, KeepsButColours}
 use Rattle.page_core.specs.Composition.{with_entries}
 use Rattle.page_core.specs.Handed.{AreContents}
 use Rattle.page_core.specs.Private.Judging.{fault_before_nodes}
-use Rattle.page_core.specs.Memory.{Memory, IsWhole, Holds, showing}
+use Rattle.page_core.specs.Memory.{Memory, IsWholeMemory, HoldsSegments, showing}
 use Rattle.page_core.specs.Private.RegionSteps.{AreRegionsRight, KeepsButRegions}
 use Rattle.page_core.specs.Private.RegionTests.{AreApart, before_regions, first_in}
 use Rattle.page_core.specs.Private.SetSteps.{before_cluts, before_objects, with_composition, KeepsButPage}
@@ -26,8 +26,8 @@ use Rattle.page_core.proofs.Counts.SetRoom.{nodes_suffice, same_nodes, room_for_
 use Rattle.page_core.proofs.Handed.SetVerdicts.{tests_passed}
 
 -- what is held does not ask for the entries of the page
-pub holds_without_page : (segments : List Content) (memory : Memory) → Holds segments memory
-    → Holds segments (with_composition (with_entries [] memory.composition) memory)
+pub holds_without_page : (segments : List Content) (memory : Memory) → HoldsSegments segments memory
+    → HoldsSegments segments (with_composition (with_entries [] memory.composition) memory)
 holds_without_page segments memory holds = record {
   display = holds.display;
   region_ids = holds.region_ids;
@@ -69,7 +69,7 @@ pixels_before_cluts set before =
 -- the display and the regions of a set are taken; no page has entries
 pub record HasRegions (set : List Content) (before : List (List Content)) (page : Page)
     (first memory : Memory) : Type 0 where
-  pub holds : Holds (before_cluts (segments_of before) set) memory
+  pub holds : HoldsSegments (before_cluts (segments_of before) set) memory
   pub pixels : memory.store.free ≡ memory.profile.pixels - pixels_used (taken_of (segments_of (set ∷ before)))
   pub empty : memory.composition.entries ≡ []
   pub enough : nodes_of (taken_of (before_objects (segments_of before) set)) page ≤ memory.profile.nodes
@@ -82,7 +82,7 @@ module _ (set : List Content) (before : List (List Content)) (page : Page) (byte
       → None ≡ fault_before_nodes first.profile before set page
       → nodes_of (taken_of (before_objects (segments_of before) set)) page ≤ first.profile.nodes
       → memory.profile ≡ first.profile → memory.store ≡ first.store → memory.composition.entries ≡ []
-      → IsWhole memory → Holds (before_regions (segments_of before) set) memory
+      → IsWholeMemory memory → HoldsSegments (before_regions (segments_of before) set) memory
       → AreRegionsRight (before_regions (segments_of before) set) set memory
   regions_right first memory is_before none enough profile store empty whole holds =
       let passed = tests_passed first.profile before set page (sym none) in
@@ -105,12 +105,12 @@ module _ (set : List Content) (before : List (List Content)) (page : Page) (byte
   pub regions_taken : (first shown cleared memory : Memory) → IsBefore before first
       → None ≡ fault_before_nodes first.profile before set page
       → None ≡ composition_fault first.profile (taken_of (segments_of (set ∷ before))) page
-      → Holds (before_regions (segments_of before) set) shown → shown ≡ showing shown.display first
-      → cleared ≡ with_composition (with_entries [] shown.composition) shown → IsWhole cleared
-      → ((older set : List Content) → Holds older cleared → AreContents set bytes
+      → HoldsSegments (before_regions (segments_of before) set) shown → shown ≡ showing shown.display first
+      → cleared ≡ with_composition (with_entries [] shown.composition) shown → IsWholeMemory cleared
+      → ((older set : List Content) → HoldsSegments older cleared → AreContents set bytes
       → AreApart [] (filter is_region set) → AreRegionsRight older set cleared
-      → Holds (reverse (filter is_region set) ++ older) memory)
-      → ((older set : List Content) → Holds older cleared → AreContents set bytes
+      → HoldsSegments (reverse (filter is_region set) ++ older) memory)
+      → ((older set : List Content) → HoldsSegments older cleared → AreContents set bytes
       → AreApart [] (filter is_region set) → AreRegionsRight older set cleared
       → memory.store.free
       ≡ memory.profile.pixels - pixels_used (taken_of (reverse (filter is_region set) ++ older)))
@@ -122,7 +122,8 @@ module _ (set : List Content) (before : List (List Content)) (page : Page) (byte
       let store : cleared.store ≡ first.store =
       ap (λ (m : Memory). m.store) cleared_is ∙ ap (λ (m : Memory). m.store) shown_is in
       let empty : cleared.composition.entries ≡ [] = ap (λ (m : Memory). m.composition.entries) cleared_is in
-      let holds : Holds base cleared = subst (Holds base) (sym cleared_is) (holds_without_page base shown held) in
+      let holds : HoldsSegments base cleared =
+      subst (HoldsSegments base) (sym cleared_is) (holds_without_page base shown held) in
       let enough : nodes_of (taken_of (before_objects (segments_of before) set)) page ≤ first.profile.nodes =
       subst (λ (n : ℕ). n ≤ first.profile.nodes) (nodes_before_objects set before page)
       (nodes_suffice first.profile (taken_of (segments_of (set ∷ before))) page (sym room)) in
@@ -141,21 +142,21 @@ module _ (set : List Content) (before : List (List Content)) (page : Page) (byte
 
 -- all but the objects of a set is taken
 pub record HasPage (set : List Content) (before : List (List Content)) (page : Page) (memory : Memory) : Type 0 where
-  pub holds : Holds (before_objects (segments_of before) set) memory
+  pub holds : HoldsSegments (before_objects (segments_of before) set) memory
   pub entries : memory.composition.entries ≡ page.entries
   pub free : memory.composition.free ≡ memory.profile.nodes - nodes_of (taken_of (segments_of (set ∷ before))) page
   pub pixels : memory.store.free ≡ memory.profile.pixels - pixels_used (taken_of (segments_of (set ∷ before)))
 
 pub page_taken : (set : List Content) (before : List (List Content)) (page : Page) (bytes : List ℕ)
     → IsSound set bytes → (first old coloured memory : Memory) → HasRegions set before page first old
-    → IsWhole old
-    → ((older set : List Content) → Holds older old → AreContents set bytes → HasRoomForCluts older set old
-    → Holds (reverse (filter is_clut set) ++ older) coloured) → KeepsButColours old coloured
-    → ((segments : List Content) → Holds segments coloured → Holds segments memory)
-    → ((segments : List Content) → Holds segments coloured → coloured.composition.entries ≡ []
+    → IsWholeMemory old
+    → ((older set : List Content) → HoldsSegments older old → AreContents set bytes → HasRoomForCluts older set old
+    → HoldsSegments (reverse (filter is_clut set) ++ older) coloured) → KeepsButColours old coloured
+    → ((segments : List Content) → HoldsSegments segments coloured → HoldsSegments segments memory)
+    → ((segments : List Content) → HoldsSegments segments coloured → coloured.composition.entries ≡ []
     → nodes_of (taken_of segments) page ≤ coloured.profile.nodes
     → memory.composition.entries ≡ page.entries)
-    → ((segments : List Content) → Holds segments coloured → coloured.composition.entries ≡ []
+    → ((segments : List Content) → HoldsSegments segments coloured → coloured.composition.entries ≡ []
     → nodes_of (taken_of segments) page ≤ coloured.profile.nodes
     → memory.composition.free ≡ memory.profile.nodes - nodes_of (taken_of segments) page)
     → KeepsButPage coloured memory → HasPage set before page memory
@@ -164,7 +165,7 @@ page_taken set before page bytes sound first old coloured memory has whole taken
     let room : HasRoomForCluts base set old =
     room_for_cluts base old whole has.holds (reverse (filter is_clut set)) page has.empty (no_regions_in_cluts set)
     has.enough in
-    let holds : Holds (before_objects (segments_of before) set) coloured =
+    let holds : HoldsSegments (before_objects (segments_of before) set) coloured =
     taken base set has.holds sound.contents room in
     let empty : coloured.composition.entries ≡ [] = rest.entries ∙ has.empty in
     let enough : nodes_of (taken_of (before_objects (segments_of before) set)) page ≤ coloured.profile.nodes =

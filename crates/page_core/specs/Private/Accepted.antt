@@ -13,7 +13,7 @@ use Rattle.decoder_model.specs.declared.set_end.SetEnd.{SetEnd}
 use Rattle.decoder_model.specs.declared.set_end.SetEnd.TheVariants.{Shown, Waiting, Broken, NotLater}
 use Rattle.segments.specs.Contents.{page_value}
 use Rattle.page_core.specs.Private.Epochs.{IsStart}
-use Rattle.page_core.specs.Memory.{Holds, Memory, Stands}
+use Rattle.page_core.specs.Memory.{HoldsSegments, Memory, IsMemoryAfter}
 use Rattle.page_core.specs.Private.Seen.{IsFound}
 use Rattle.page_core.specs.Private.Sound.{IsSound}
 use Rattle.page_core.specs.declared.epoch.Start.{Start}
@@ -45,7 +45,7 @@ IsEarly (NotLater last) = ⊥
 
 -- the memory has what the sets of an epoch before a set give, and these leave as many bytes of pixels free
 pub record IsBefore (before : List (List Content)) (memory : Memory) : Type 0 where
-  pub holds : Holds (segments_of before) memory
+  pub holds : HoldsSegments (segments_of before) memory
   pub free : memory.store.free ≡ memory.profile.pixels - pixels_used (taken_of (segments_of before))
 
 -- the epoch with the set, and the memory has what its sets before the set give; a set that begins none leaves nothing
@@ -64,5 +64,5 @@ IsTakenEarly old past pts size readings bytes new (Ok accepted) =
     IsOfEpoch old.profile (sets_since old.profile old.anchor past) readings bytes accepted
     × IsBegun (sets_since old.profile old.anchor past) (contents_in readings) accepted.start new
 IsTakenEarly old past pts size readings bytes new (Err end) =
-    Stands (whole pts size readings ∷ past) new
+    IsMemoryAfter (whole pts size readings ∷ past) new
     × (verdict_on_kept old.profile (sets_since old.profile old.anchor past) readings ≡ end) × IsEarly end

@@ -18,12 +18,12 @@ use Rattle.decoder_model.specs.Pixels.{bottom_parts, code_by_field}
 use Rattle.decoder_model.specs.Readings.{Content}
 use Rattle.decoder_model.specs.declared.set_fault.SetFault.TheVariants as fault
 use Rattle.pixel_store.specs.Regions.{Regions, IsPlaced, KeepsOthers, region_at, code_of}
-use Rattle.page_core.specs.Memory.{HasSides}
+use Rattle.page_core.specs.Memory.{HasSidesOf}
 
 -- a slot of the store has a region with the sides and the depth of a head
 pub record HasRegion (head : RegionHead) (slot : ℕ) (store : Regions) : Type 0 where
   pub placed : IsPlaced store slot
-  pub sides : HasSides head (region_at store slot)
+  pub sides : HasSidesOf head (region_at store slot)
 
 -- the numbers of a region's head fit their fields: the id of its CLUT, and the codes with which it is filled at each
 -- depth

@@ -14,7 +14,7 @@ use Rattle.decoder_model.specs.Taken.{Taken, is_taken, taken_of, taken_region}
 use Rattle.sub_base.specs.declared.profile.Profile.{Profile}
 use Rattle.pixel_store.specs.Regions.{PlacesOne, Regions, code_of, region_at}
 use Rattle.page_core.specs.Composition.{AreIdsApart, Composition, KeptListing, KeptRegion, region_in, taken_nodes}
-use Rattle.page_core.specs.Memory.{HasSides, Memory, head_of, kept_listing}
+use Rattle.page_core.specs.Memory.{HasSidesOf, Memory, head_of, kept_listing}
 use Rattle.page_core.specs.Private.Painted.{FitsHead, IsWritten}
 use Rattle.page_core.specs.Private.RegionTests.{first_in, head_in, is_new}
 use Rattle.page_core.specs.Private.Walks.{is_region}
@@ -103,7 +103,7 @@ IsRightValue passed_over = Unit {0}
 pub record AreStored (composition : Composition) (store : Regions) : Type 0 where
   pub counted : composition.free + taken_nodes composition ≡ composition.size
   pub slots : map (λ (kept : KeptRegion). kept.slot) composition.regions ≡ range_with_len 0 (length store.regions)
-  pub sides : All (λ (kept : KeptRegion). HasSides kept.head (region_at store kept.slot)) composition.regions
+  pub sides : All (λ (kept : KeptRegion). HasSidesOf kept.head (region_at store kept.slot)) composition.regions
   pub cluts : All (λ (kept : KeptRegion). kept.head.clut < 256) composition.regions
   pub ids : All (λ (kept : KeptRegion). kept.head.region < 256) composition.regions
   pub apart : AreIdsApart composition.regions

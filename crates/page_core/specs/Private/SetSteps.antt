@@ -6,7 +6,7 @@ use Rattle.decoder_model.specs.Nodes.{nodes_of, pixels_used}
 use Rattle.decoder_model.specs.Readings.{Content}
 use Rattle.decoder_model.specs.Taken.{segments_of, taken_of}
 use Rattle.page_core.specs.Composition.{Composition}
-use Rattle.page_core.specs.Memory.{Memory, Holds}
+use Rattle.page_core.specs.Memory.{Memory, HoldsSegments}
 use Rattle.page_core.specs.Private.RegionTests.{before_regions}
 use Rattle.page_core.specs.Private.Walks.{is_region, is_clut}
 
@@ -51,7 +51,7 @@ pub record KeepsButPage (old new : Memory) : Type 0 where
 -- an epoch is known, and the memory has what its sets give, with the page of the last of them
 pub record HasEpoch (set : List Content) (before : List (List Content)) (page : Page) (memory : Memory) : Type 0 where
   pub known : memory.known ≡ true
-  pub holds : Holds (segments_of (set ∷ before)) memory
+  pub holds : HoldsSegments (segments_of (set ∷ before)) memory
   pub time_out : memory.time_out ≡ page.time_out
   pub entries : memory.composition.entries ≡ page.entries
   pub free_nodes : memory.composition.free

@@ -2,7 +2,7 @@
 
 ghost use Rattle.std.specs.Prelude.{◌≡◌, ◌≤◌, All, None, length, option_map};
 ghost use Rattle.comp_pool.specs.Pool.{list_of};
-ghost use Rattle.decoder_model.specs.Readings.{Content, AreFields};
+ghost use Rattle.decoder_model.specs.Readings.{Content, AreObjectFields};
 ghost use Rattle.decoder_model.specs.declared.set_fault.SetFault.{SetFault};
 ghost use Rattle.pixel_store.specs.Regions.{KeepsOthers};
 ghost use Rattle.segments.specs.Contents.{object_value};
@@ -46,14 +46,14 @@ impl CompositionMemory {
             self.old.regions }
         ensures room { KeepsRoom store.old store.new }
         ensures fault { (content : Content)
-            → AreFields (of_object (object_value object.now)) content.top content.bottom
+            → AreObjectFields (of_object (object_value object.now)) content.top content.bottom
             → AreIdsApart self.old.regions
             → option_map SetFault.Segment result
             ≡ option_map (λ found. found.1)
             (least_of (fault_in_kept (painter_of object.now) content (object_value object.now))
             self.old.regions) }
         ensures written { (content : Content)
-            → AreFields (of_object (object_value object.now)) content.top content.bottom
+            → AreObjectFields (of_object (object_value object.now)) content.top content.bottom
             → least_of (fault_in_kept (painter_of object.now) content (object_value object.now))
             self.old.regions ≡ None → AreIdsApart self.old.regions
             → AreKeptWritten (painter_of object.now) content self.old.regions store.old
@@ -79,13 +79,13 @@ fn paint_regions(
     ensures regions { HaveRegions pool.old store.new }
     ensures room { KeepsRoom store.old store.new }
     ensures fault { (content : Content)
-        → AreFields (of_object (object_value object.now)) content.top content.bottom
+        → AreObjectFields (of_object (object_value object.now)) content.top content.bottom
         → AreApart pool.old
         → option_map told result
         ≡ least_of (fault_in_pair pool.old painter content (object_value object.now))
         (list_of pool.old 1) }
     ensures written { (content : Content)
-        → AreFields (of_object (object_value object.now)) content.top content.bottom
+        → AreObjectFields (of_object (object_value object.now)) content.top content.bottom
         → HasNoFaults painter content (object_value object.now) pool.old → AreApart pool.old
         → AreWritten painter content pool.old (kept_in region_node (list_of pool.old 1)) store.old
         store.new }
@@ -115,11 +115,11 @@ fn paint_at(
     ensures nodes { IsPaintedAt painter node pool.old pool.new }
     ensures others { KeepsAt node store.old store.new }
     ensures fault { (content : Content)
-        → AreFields (of_object (object_value object.now)) content.top content.bottom
+        → AreObjectFields (of_object (object_value object.now)) content.top content.bottom
         → option_map told result
         ≡ fault_in_node pool.old painter content (object_value object.now) node }
     ensures written { (content : Content)
-        → AreFields (of_object (object_value object.now)) content.top content.bottom
+        → AreObjectFields (of_object (object_value object.now)) content.top content.bottom
         → IsWrittenAt painter content (object_value object.now) pool.old node store.old
         store.new }
 {
@@ -146,11 +146,11 @@ fn paint_in(
         pool.old pool.new }
     ensures others { KeepsOthers region.now.slot store.old store.new }
     ensures fault { (content : Content)
-        → AreFields (of_object (object_value object.now)) content.top content.bottom
+        → AreObjectFields (of_object (object_value object.now)) content.top content.bottom
         → option_map told result
         ≡ fault_in_region_node pool.old painter content (object_value object.now) region.now }
     ensures written { (content : Content)
-        → AreFields (of_object (object_value object.now)) content.top content.bottom
+        → AreObjectFields (of_object (object_value object.now)) content.top content.bottom
         → HasNoFault painter content (object_value object.now) pool.old region.now
         → IsWrittenIn painter content pool.old region.now store.old store.new }
 {

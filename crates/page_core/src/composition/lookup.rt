@@ -16,7 +16,7 @@ const ENTRIES: u32 = 0;
 
 /// The entries of a page, one after another. It is seen as the list of the entries that come.
 #[derive(Drop)]
-pub(crate) struct Entries<'a> {
+pub struct Entries<'a> {
     pool: &'a Pool<Node>,
     next: Option<NodeId>,
 }
@@ -36,7 +36,7 @@ impl<'a> Model for Entries<'a> {
 
 impl Entries<'_> {
     /// The next entry; none exactly after the last one.
-    pub(crate) fn next_entry(&mut self) -> Option<PageEntry>
+    pub fn next_entry(&mut self) -> Option<PageEntry>
         ensures { MatchOption result ((self.old ≡ []) × (self.new ≡ []))
             (λ entry. self.old ≡ entry ∷ self.new) }
     {

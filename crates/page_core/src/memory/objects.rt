@@ -2,12 +2,12 @@
 
 ghost use Rattle.std.specs.Prelude.{◌≡◌, ◌∷◌, ◌++◌, List, None, filter, option_map, reverse};
 ghost use Rattle.decoder_model.specs.Faults.{object_too_deep};
-ghost use Rattle.decoder_model.specs.Readings.{AreFields, Content};
+ghost use Rattle.decoder_model.specs.Readings.{AreObjectFields, Content};
 ghost use Rattle.decoder_model.specs.declared.set_fault.SetFault.{SetFault as Fault};
 ghost use Rattle.segments.specs.Contents.{object_value};
 ghost use Rattle.stream_syntax.specs.Segments.{of_object};
 ghost use Rattle.page_core.specs.Handed.{AreContents, HasFieldSizes};
-ghost use Rattle.page_core.specs.Memory.{Holds};
+ghost use Rattle.page_core.specs.Memory.{HoldsSegments};
 ghost use Rattle.page_core.specs.Private.RegionTests.{first_in};
 ghost use Rattle.page_core.specs.Private.SetSteps.{KeepsButObjects};
 ghost use Rattle.page_core.specs.Private.Walks.{is_object};
@@ -20,13 +20,13 @@ use segments::{ObjectSeg, SegmentFault};
 impl Core {
     /// Takes the object segments of a set, one after another; the first that has a fault ends it.
     pub(crate) fn take_objects(&mut self, bytes: &[u8]) -> Option<SetFault>
-        ensures fault { (older set : List Content) → Holds older self.old
+        ensures fault { (older set : List Content) → HoldsSegments older self.old
             → AreContents set bytes.now
             → result ≡ first_in object_too_deep older (filter is_object set) }
-        ensures taken { (older set : List Content) → Holds older self.old
+        ensures taken { (older set : List Content) → HoldsSegments older self.old
             → AreContents set bytes.now
             → result ≡ None
-            → Holds (reverse (filter is_object set) ++ older) self.new }
+            → HoldsSegments (reverse (filter is_object set) ++ older) self.new }
         ensures rest { KeepsButObjects self.old self.new }
     {
         let mut rest = bytes;
@@ -43,14 +43,14 @@ impl Core {
     /// painted then is of no use.
     fn take_object(&mut self, object: &ObjectSeg<'_>) -> Option<SetFault>
         requires fields { HasFieldSizes (of_object (object_value object.now)) }
-        ensures fault { (older : List Content) (content : Content) → Holds older self.old
+        ensures fault { (older : List Content) (content : Content) → HoldsSegments older self.old
             → of_object (object_value object.now) ≡ content.value
-            → AreFields content.value content.top content.bottom
+            → AreObjectFields content.value content.top content.bottom
             → result ≡ object_too_deep older content }
-        ensures taken { (older : List Content) (content : Content) → Holds older self.old
+        ensures taken { (older : List Content) (content : Content) → HoldsSegments older self.old
             → of_object (object_value object.now) ≡ content.value
-            → AreFields content.value content.top content.bottom → result ≡ None
-            → Holds (content ∷ older) self.new }
+            → AreObjectFields content.value content.top content.bottom → result ≡ None
+            → HoldsSegments (content ∷ older) self.new }
         ensures rest { KeepsButObjects self.old self.new }
     {
         in_segment(self.composition.paint_everywhere(object, &mut self.store))

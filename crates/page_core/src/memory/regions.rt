@@ -5,7 +5,7 @@ ghost use Rattle.decoder_model.specs.Nodes.{pixels_used};
 ghost use Rattle.decoder_model.specs.Readings.{Content};
 ghost use Rattle.decoder_model.specs.Taken.{taken_of};
 ghost use Rattle.page_core.specs.Handed.{AreContents};
-ghost use Rattle.page_core.specs.Memory.{Holds};
+ghost use Rattle.page_core.specs.Memory.{HoldsSegments};
 ghost use Rattle.page_core.specs.Private.RegionSteps.{AreRegionsRight, KeepsButRegions, with_regions_of};
 ghost use Rattle.page_core.specs.Private.RegionTests.{AreApart};
 ghost use Rattle.page_core.specs.Private.Walks.{is_region};
@@ -16,10 +16,10 @@ use crate::region_taking::{clear_renewed, take_all};
 impl Core {
     /// Takes the region segments of a set.
     pub(super) fn take_regions(&mut self, bytes: &[u8])
-        ensures holds { (older set : List Content) → Holds older self.old
+        ensures holds { (older set : List Content) → HoldsSegments older self.old
             → AreContents set bytes.now → AreApart [] (filter is_region set)
-            → AreRegionsRight older set self.old → Holds (with_regions_of older set) self.new }
-        ensures pixels { (older set : List Content) → Holds older self.old
+            → AreRegionsRight older set self.old → HoldsSegments (with_regions_of older set) self.new }
+        ensures pixels { (older set : List Content) → HoldsSegments older self.old
             → AreContents set bytes.now → AreApart [] (filter is_region set)
             → AreRegionsRight older set self.old
             → self.new.store.free

@@ -2,13 +2,16 @@ ghost use Rattle.std.specs.Prelude.{◌≡◌, ◌<◌, ℕ, List, Some, true, l
 ghost use Rattle.decoder_model.specs.Readings.{Reading};
 ghost use Rattle.decoder_model.specs.Sets.{Delivery};
 ghost use Rattle.decoder_model.specs.Shown.{Standing, standing_after};
-ghost use Rattle.page_core.specs.Memory.{IsDisplayOf, Stands};
+ghost use Rattle.page_core.specs.Edges.{is_outside_in};
+ghost use Rattle.page_core.specs.Memory.{IsDisplayOf, IsMemoryAfter};
 ghost use Rattle.page_core.specs.Rows.{IsLineLent, listed_in, row_in};
-ghost use Rattle.page_core.specs.Scenes.{Shows, until_in};
+ghost use Rattle.page_core.specs.Scenes.{ShowsStanding, until_in};
 
 use super::Core;
-use crate::rows;
+use crate::composition::Entries;
+use crate::{edges, rows};
 use std::marker::Model;
+use stream_syntax::PageEntry;
 use sub_base::{Colour, SECOND};
 
 /// The page that a core shows. Contracts see it as what the core keeps. It can be read by several
@@ -33,10 +36,10 @@ impl Core {
         requires { self.now.known ≡ true }
         ensures same { result ≡ self.now }
         ensures display { IsDisplayOf self.now.profile self.now.display }
-        ensures shown { (past : List (Delivery Reading)) → Stands past self.now
+        ensures shown { (past : List (Delivery Reading)) → IsMemoryAfter past self.now
             → (standing : Standing)
             × (standing_after self.now.profile self.now.anchor past ≡ Some standing)
-            × Shows standing self.now }
+            × ShowsStanding standing self.now }
     {
         let _ = &self.known; // The invariant is wanted.
         Scene { core: self }
@@ -71,6 +74,23 @@ impl Scene<'_> {
         } else {
             Some(core.last.unwrap_or(0) + SECOND * u64::from(core.time_out))
         }
+    }
+
+    /// The entries of the page, in order.
+    pub fn entries(&self) -> Entries<'_>
+        ensures { result ≡ self.now.composition.entries }
+    {
+        let core = self.core;
+        core.composition.entries()
+    }
+
+    /// Whether the region that an entry of the page lists does not lie inside the window of the
+    /// display: what passes its edges is not seen. A region that is not defined passes none.
+    pub fn is_outside(&self, entry: PageEntry) -> bool
+        ensures { result ≡ is_outside_in self.now entry }
+    {
+        let core = self.core;
+        edges::is_outside(&core.composition, core.display, entry)
     }
 
     /// Makes a row the row y of the picture.

@@ -18,7 +18,7 @@ ghost use Rattle.page_core.specs.Private.Accepted.{IsBefore};
 ghost use Rattle.page_core.specs.Composition.{with_entries};
 ghost use Rattle.page_core.specs.Private.Epochs.{HasOneDisplay};
 ghost use Rattle.stream_syntax.specs.Segments.{Display};
-ghost use Rattle.page_core.specs.Memory.{Holds, IsForgotten, IsSameReceiver, IsWhole, Stands, showing};
+ghost use Rattle.page_core.specs.Memory.{HoldsSegments, IsForgotten, IsSameReceiver, IsWholeMemory, IsMemoryAfter, showing};
 ghost use Rattle.page_core.specs.Private.RegionTests.{before_regions};
 ghost use Rattle.page_core.specs.Private.Seen.{IsFound};
 ghost use Rattle.page_core.specs.Private.SetSteps.{HasEpoch, KeepsButPage, with_composition};
@@ -36,10 +36,10 @@ impl Core {
     pub fn take_set(&mut self, pts: u64, bytes: &[u8]) -> SetEnd
         requires { pts < 2 ^ 33 }
         ensures stands { (past : List (Delivery Reading)) (size : ℕ) (readings : List Reading)
-            → Stands past self.old → AreRead readings bytes.now
-            → Stands (whole pts size readings ∷ past) self.new }
+            → IsMemoryAfter past self.old → AreRead readings bytes.now
+            → IsMemoryAfter (whole pts size readings ∷ past) self.new }
         ensures answer { (past : List (Delivery Reading)) (size : ℕ) (readings : List Reading)
-            → Stands past self.old → AreRead readings bytes.now
+            → IsMemoryAfter past self.old → AreRead readings bytes.now
             → Some result
             ≡ verdict_of self.old.profile self.old.anchor past (whole pts size readings) }
         ensures known { result ≡ Shown → self.new.known ≡ true }
@@ -57,12 +57,12 @@ impl Core {
     fn take_kept(&mut self, time: u64, bytes: &[u8]) -> SetEnd
         requires { time < 2 ^ 62 }
         ensures stands { (past : List (Delivery Reading)) (pts size : ℕ) (readings : List Reading)
-            → Stands past self.old
+            → IsMemoryAfter past self.old
             → lifted_time self.old.anchor past (whole pts size readings) ≡ Some time
             → AreRead readings bytes.now
-            → Stands (whole pts size readings ∷ past) self.new }
+            → IsMemoryAfter (whole pts size readings ∷ past) self.new }
         ensures answer { (past : List (Delivery Reading)) (pts size : ℕ) (readings : List Reading)
-            → Stands past self.old
+            → IsMemoryAfter past self.old
             → lifted_time self.old.anchor past (whole pts size readings) ≡ Some time
             → AreRead readings bytes.now
             → result ≡ verdict_on_kept self.old.profile
@@ -120,10 +120,10 @@ impl Core {
     fn take_display(&mut self, display: Option<DisplaySeg>)
         requires fits { option_and_then (fault_of_display self.old.profile)
             (option_map display_value display) ≡ None }
-        ensures holds { (older set : List Content) → Holds older self.old
+        ensures holds { (older set : List Content) → HoldsSegments older self.old
             → display_in_set set ≡ option_map display_value display
             → ((one : Display) → display_in_set set ≡ Some one → HasOneDisplay set one)
-            → Holds (before_regions older set) self.new }
+            → HoldsSegments (before_regions older set) self.new }
         ensures rest { self.new ≡ showing self.new.display self.old }
     {
         if let Some(display) = display {
@@ -135,20 +135,20 @@ impl Core {
     fn clear_page(&mut self)
         ensures cleared { self.new
             ≡ with_composition (with_entries [] self.old.composition) self.old }
-        ensures whole { IsWhole self.new }
+        ensures whole { IsWholeMemory self.new }
     {
         self.composition.clear_entries();
     }
 
     // The page of a set stands.
     fn take_page(&mut self, page: &PageSeg<'_>)
-        ensures holds { (segments : List Content) → Holds segments self.old
-            → Holds segments self.new }
-        ensures entries { (segments : List Content) → Holds segments self.old
+        ensures holds { (segments : List Content) → HoldsSegments segments self.old
+            → HoldsSegments segments self.new }
+        ensures entries { (segments : List Content) → HoldsSegments segments self.old
             → self.old.composition.entries ≡ []
             → nodes_of (taken_of segments) (page_value page.now) ≤ self.old.profile.nodes
             → self.new.composition.entries ≡ (page_value page.now).entries }
-        ensures free { (segments : List Content) → Holds segments self.old
+        ensures free { (segments : List Content) → HoldsSegments segments self.old
             → self.old.composition.entries ≡ []
             → nodes_of (taken_of segments) (page_value page.now) ≤ self.old.profile.nodes
             → self.new.composition.free

@@ -3,7 +3,7 @@ use Rattle.std.specs.Prelude.{◌≡◌, ℕ, ◌^◌, ◌<◌, List, length, Al
 use Rattle.std.specs.List.Sorted.{IsStrictlyIncreasing}
 use Rattle.cue_list.specs.declared.script.Script.{Script}
 use Rattle.page_epoch.specs.declared.planned_set.PlannedSet.{PlannedSet}
-use Rattle.schedule.specs.Refusals.{IsCause as IsScheduleCause}
+use Rattle.schedule.specs.Refusals.{IsScheduleCause}
 use Rattle.schedule.specs.Slots.{Timetable}
 use Rattle.script_stream.specs.Refused.{IsPlanRefused, IsRowOf}
 use Rattle.slot_stream.specs.SlotStream.{all_pieces, stream_of}

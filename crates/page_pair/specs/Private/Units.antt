@@ -14,7 +14,7 @@ use Rattle.schedule.specs.Slots.{IsLoad}
 use Rattle.sent_sets.specs.RawSets.{RawSet, AreRawPackets}
 use Rattle.sent_sets.specs.SentStream.{AreSizedAs}
 use Rattle.page_pair.specs.PairSets.{Paged, ArePairSegments, pair_raw, pair_size, segments_size}
-use Rattle.page_pair.specs.PairStream.{ArePairLoads, ArePairSets, IsPairLoad, IsTooLong}
+use Rattle.page_pair.specs.PairStream.{ArePairLoads, ArePairSets, IsPairLoad, IsPairTooLong}
 use Rattle.page_pair.specs.Private.Writing.{AreWritten, CanBeWritten}
 use Rattle.page_pair.specs.declared.pages.TwoPages.{TwoPages}
 use Rattle.page_pair.specs.declared.pair_set.SetStop.{SetStop}
@@ -120,4 +120,4 @@ AreUnitsOf pages first second one two made =
 -- why the sets have no PES packets: those at this place are the first that have no room. Memory may want at any time
 abbrev pub IsUnitsStop : TwoPages → Script → Script → List PlannedSet → List PlannedSet → UnitsStop → Type 0
 IsUnitsStop pages first second one two Memory = Unit {0}
-IsUnitsStop pages first second one two (TooLong set size) = IsTooLong pages first second one two set size
+IsUnitsStop pages first second one two (TooLong set size) = IsPairTooLong pages first second one two set size

@@ -3,10 +3,10 @@ use Rattle.std.specs.Prelude.{◌≡◌, ℕ, ◌+◌, ◌-◌, ◌^◌, ◌<◌
 use Rattle.sub_base.specs.declared.depth.Depth.TheVariants.{Two}
 use Rattle.pixel_store.specs.declared.extent.Extent.{Extent}
 use Rattle.pixel_store.specs.Private.Extents.{room_of, size_of, pixel}
-use Rattle.pixel_store.specs.Regions.{Region, Regions}
+use Rattle.pixel_store.specs.Regions.{StoredRegion, Regions}
 
 -- the region of an extent
-abbrev pub region_in : List ℕ → Extent → Region
+abbrev pub region_in : List ℕ → Extent → StoredRegion
 region_in bytes extent =
     record {
       width = extent.width;

@@ -2,13 +2,14 @@
 use Rattle.std.specs.Prelude.{◌≡◌, ℕ, ◌+◌, ◌^◌, ◌<◌, ◌≤◌, List, length, All, slice_index}
 use Rattle.std.specs.List.Sorted.{IsStrictlyIncreasing}
 use Rattle.cue_list.specs.declared.script.Script.{Script}
-use Rattle.page_epoch.specs.Sendable.{IsSendable}
+use Rattle.page_epoch.specs.Sendable.{IsOfItsEpoch}
 use Rattle.page_epoch.specs.declared.planned_set.PlannedSet.{PlannedSet}
 use Rattle.schedule.specs.Packets.{first_packet}
 use Rattle.schedule.specs.Slots.{IsLoad, IsOnTime, IsSchedule, Timetable}
 use Rattle.set_coder.specs.SetSizes.{FitsPackets}
-use Rattle.shown_stream.specs.Compiled.{AreLoads, AreSizedAs, AreUnits, IsPlanned, all_units, sent_pace}
-use Rattle.slot_stream.specs.KeptPackets.{Kept, numbered}
+use Rattle.shown_stream.specs.Compiled.{AreLoads, AreUnitsOfSets, IsPlanned, all_units, sent_pace}
+use Rattle.sent_sets.specs.SentStream.{AreSizedAs}
+use Rattle.slot_stream.specs.KeptPackets.{SlottedPackets, numbered}
 use Rattle.slot_stream.specs.SlotStream.{all_pieces, stream_of}
 use Rattle.sub_base.specs.declared.load.WriteLoad.{WriteLoad}
 use Rattle.sub_base.specs.declared.profile.ProfileName.{ProfileName}
@@ -26,7 +27,7 @@ pub record AreSlotted (loads : List WriteLoad) (table : Timetable) : Type 0 wher
 -- each of these sets can be sent with its load, and each of their packets has a slot
 pub record AreReady (script : Script) (sets : List PlannedSet) (loads : List WriteLoad)
     (table : Timetable) : Type 0 where
-  pub sendable : All (IsSendable script) sets
+  pub sendable : All (IsOfItsEpoch script) sets
   pub fit : All (FitsPackets script) sets
   pub asked : AreLoads script sets loads
   pub slotted : AreSlotted loads table
@@ -48,9 +49,9 @@ pub record AreFirst (loads : List WriteLoad) (sets packets : ℕ) : Type 0 where
 
 -- these are the packets of the sets, of which the first has that number, at these slots
 pub record AreKeptOf (script : Script) (pid page number : ℕ) (sets : List PlannedSet) (slots : List ℕ)
-    (kept : Kept) : Type 0 where
+    (kept : SlottedPackets) : Type 0 where
   pub units : List (List (List ℕ))
-  pub carried : AreUnits script page sets units
+  pub carried : AreUnitsOfSets script page sets units
   pub slots_are : kept.slots ≡ slots
   pub packets_are : kept.packets ≡ numbered pid number (all_pieces (all_units units))
 
@@ -58,6 +59,6 @@ pub record AreKeptOf (script : Script) (pid page number : ℕ) (sets : List Plan
 pub record AreLeftOf (script : Script) (pid page : ℕ) (sets : List PlannedSet) (loads : List WriteLoad)
     (slots : List ℕ) (sent : ℕ) (left : PacketsLeft) : Type 0 where
   pub units : List (List (List ℕ))
-  pub carried : AreUnits script page sets units
+  pub carried : AreUnitsOfSets script page sets units
   pub sized : AreSizedAs loads units
   pub left_is : ArePacketsLeft (stream_of pid (all_pieces (all_units units)) slots) sent left

@@ -4,7 +4,7 @@ use Rattle.std.specs.Io.KnownBytes.{IsAtEnd}
 use Rattle.sub_base.specs.Counts.{HasRisenPast}
 use Rattle.sub_base.specs.Endpoints.{HasReadFault, Supplied}
 use Rattle.packet_source.specs.InHand.{InHand, read_count, whole_packets}
-use Rattle.packet_source.specs.Packets.{Stands}
+use Rattle.packet_source.specs.Packets.{HasGivenInHand}
 use Rattle.packet_source.specs.declared.limits.TheConstants.{STREAM_LIMIT}
 use Rattle.stream_syntax.specs.TransportPackets.{has_sync}
 use Rattle.stream_syntax.specs.declared.wire.TheConstants.{PACKET_LENGTH}
@@ -25,7 +25,7 @@ pub record HasEnded (now : Supplied) (hand : InHand) : Type 0 where
 -- the source gave these packets, which were passed, and then those in hand that were not, and a rest
 pub record HasPassed (before now : Supplied) (lane : Lane) (packets : List (List ℕ)) : Type 0 where
   pub earlier : List (List ℕ)
-  pub stands : Stands before now lane.packets earlier
+  pub stands : HasGivenInHand before now lane.packets earlier
   pub passed : packets ≡ earlier ++ take lane.next (whole_packets lane.packets.bytes)
   pub ended : lane.is_ended ≡ true → HasEnded now lane.packets
 

@@ -3,7 +3,7 @@ use Rattle.std.specs.Prelude.{◌≡◌, ℕ, ◌+◌, Bool, true, false, List, 
 use Rattle.std.specs.Option.{is_none}
 use Rattle.std.specs.List.{concat}
 use Rattle.psi_tables.specs.Services.{pmt_in, pid_in}
-use Rattle.service_mux.specs.Reading.{Stands, TableReading}
+use Rattle.service_mux.specs.Reading.{IsReadingOf, TableReading}
 use Rattle.service_mux.specs.Taken.{first_in, of_pid, subtitles_of, taken_of}
 use Rattle.service_mux.specs.declared.sought.Sought.TheVariants as sought
 use Rattle.service_mux.specs.declared.taker.Phase.{Phase}
@@ -24,7 +24,7 @@ pub record IsBeforeTable (service : ℕ) (reader : TableReading) (packets : List
     (bytes : List ℕ) : Type 0 where
   pub pid : reader.pid ≡ 0
   pub sought : reader.sought ≡ sought.Table service
-  pub stands : Stands reader (latest_first [] packets)
+  pub stands : IsReadingOf reader (latest_first [] packets)
   pub none : first_in (pmt_in service) 0 packets ≡ None
   pub nothing : bytes ≡ []
 
@@ -34,7 +34,7 @@ pub record IsBehindTable (service : ℕ) (reader : TableReading) (packets : List
   pub behind : List (List ℕ)
   pub table : first_in (pmt_in service) 0 packets ≡ Some (reader.pid, behind)
   pub sought : reader.sought ≡ sought.Subtitles service
-  pub stands : Stands reader (latest_first [] behind)
+  pub stands : IsReadingOf reader (latest_first [] behind)
   pub none : first_in (pid_in service) reader.pid behind ≡ None
   pub nothing : bytes ≡ []
 

@@ -1,5 +1,5 @@
 -- The packets of sets that are cut into pieces, with null packets between, give the calls of the scheduled sets.
-use Rattle.std.proofs.Common.{◌≡◌, ◌≢◌, ◌∙◌, inl, inr, ℕ, zero, suc, ◌+◌, ◌-◌, ◌<◌, ◌≤◌, false, List, [], ◌∷◌, ◌++◌, length, take, drop, reverse, replicate, refl, sym, ap, subst, arith, append-nil, append_assoc, length-append, length-drop}
+use Rattle.std.proofs.Common.{◌≡◌, ◌≢◌, ◌∙◌, inl, inr, ℕ, zero, suc, ◌+◌, ◌-◌, ◌<◌, ◌≤◌, false, List, [], ◌∷◌, ◌++◌, length, take, drop, reverse, replicate, sym, ap, subst, arith, append-nil, append_assoc, length-append, length-drop}
 use Rattle.std.specs.Prelude.{None, flat_map, slice_index}
 use Rattle.std.specs.List.{AllByRecursion}
 use Rattle.std.proofs.lemmas.Bool.{cases_lt}
@@ -13,18 +13,16 @@ use Rattle.decoder_model.specs.declared.pages.Pages.{Pages}
 use Rattle.decoder_model.specs.Sets.{sets_of}
 use Rattle.decoder_model.proofs.Growth.{packets_add}
 use Rattle.decoder_model.proofs.SentUnits.{all_taken}
-use Rattle.scheduled_level_laws.specs.EnteredCalls.{Entry}
 use Rattle.scheduled_level_laws.proofs.EnteredSums.{AreSlots, within_slots, rising}
 use Rattle.slot_stream.specs.SlotStream.{Piece, packet_of, all_pieces}
 use Rattle.received_level_laws.specs.StreamCalls.{count_with}
 use Rattle.received_level_laws.proofs.PacketCalls.{sound_front}
 use Rattle.shown_stream.proofs.Calls.BroughtPieces.{null_brings}
-use Rattle.shown_stream.proofs.Calls.CallsOfPieces.{E, AreUsedUp, Add, one_more, units_in, AreLeft, Piecewise, Position, nothing_left, goes_on, dropped}
+use Rattle.shown_stream.proofs.Calls.CallsOfPieces.{Hearing, Place, place_at, E, AreUsedUp, Add, one_more, units_in, AreLeft, Piecewise, Position, nothing_left, goes_on, dropped}
 use Rattle.shown_stream.proofs.Calls.EnteredSlots.{no_packet}
 use Rattle.slot_stream.proofs.LaidPackets.{laid, IsAhead}
 use Rattle.shown_stream.proofs.Calls.PiecePackets.{null_more, null_count}
 use Rattle.shown_stream.proofs.Calls.PieceSteps.{piece_step}
-use Rattle.slot_stream.proofs.SentPieces.{IsFree}
 use Rattle.shown_stream.proofs.Calls.SetsInHand.{plain_piece}
 
 -- ---- the next packet
@@ -115,146 +113,161 @@ used_up coded pid pages before (packet ∷ packets) n sound all =
 
 -- ---- the packets, one by one
 
--- so many packets from a slot on add the calls of the scheduled sets at their slots
-abbrev pub Walk : (coded pid : ℕ) (pages : Pages) (loads : List WriteLoad) (slots : List ℕ) (painted : ℕ → ℕ)
-    (entry : Entry) (m : ℕ) → Type 0
-Walk coded pid pages loads slots painted entry m =
-    (slot number i : ℕ) (before : List (List ℕ)) (left : List Piece) (places : List ℕ)
-    (calls : List (List Call)) → Position coded pid pages loads slots entry slot number i before left
-    → IsAhead slot places → drop number slots ≡ places
-    → AreLeft loads painted entry i calls → m ≤ length (laid pid slot number left places)
-    → AreUsedUp coded pid pages before (take m (laid pid slot number left places)) (length calls)
-    → Add coded pid pages loads slots painted entry slot before (take m (laid pid slot number left places)) calls m
+-- behind a place these are the slots of the packets that are left, and these calls of sets
+pub record Awaits (hearing : Hearing) (place : Place) (places : List ℕ) (calls : List (List Call)) : Type 0 where
+  pub ahead : IsAhead place.slot places
+  pub places_are : drop place.number hearing.slots ≡ places
+  pub is_left : AreLeft hearing.loads hearing.painted hearing.entry place.set calls
+
+-- the packets that are laid from a place on
+abbrev pub laid_from : Hearing → Place → List Piece → List ℕ → List (List ℕ)
+laid_from hearing place pieces places = laid hearing.pid place.slot place.number pieces places
+
+-- the first m of these packets add the calls of the scheduled sets at their slots
+abbrev pub Tell : (hearing : Hearing) (place : Place) (m : ℕ) (calls : List (List Call)) (packets : List (List ℕ))
+    → Type 0
+Tell hearing place m calls packets =
+    m ≤ length packets
+    → AreUsedUp hearing.coded hearing.pid hearing.pages place.before (take m packets) (length calls)
+    → Add hearing place.slot place.before (take m packets) calls m
+
+-- so many packets from a place on do so
+abbrev pub Walk : (hearing : Hearing) (m : ℕ) → Type 0
+Walk hearing m =
+    (place : Place) (left : List Piece) (places : List ℕ) (calls : List (List Call)) → Position hearing place left
+    → Awaits hearing place places calls → Tell hearing place m calls (laid_from hearing place left places)
 
 -- no packet more
-pub walk_none : (coded pid : ℕ) (pages : Pages) (loads : List WriteLoad) (slots : List ℕ) (painted : ℕ → ℕ)
-    (entry : Entry) → Walk coded pid pages loads slots painted entry 0
-walk_none coded pid pages loads slots painted entry =
-    λ slot number i before left places calls position ahead at is_left many used. by slot calls used
+pub walk_none : (hearing : Hearing) → Walk hearing 0
+walk_none hearing = λ place left places calls position awaits many used. by place.slot calls used
   where
     by : (slot : ℕ) (calls : List (List Call)) → length calls ≡ 0
         → reverse (flat_map (λ (calls : List Call). calls) calls)
-        ++ E loads slots painted entry slot ≡ E loads slots painted entry (slot + 0)
-    by slot [] none = let same : slot ≡ slot + 0 = omega arith in ap (E loads slots painted entry) same
+        ++ E hearing slot ≡ E hearing (slot + 0)
+    by slot [] none = let same : slot ≡ slot + 0 = omega arith in ap (E hearing) same
     by slot (first ∷ calls) none = absurd (omega arith)
 
+-- one packet more of these pieces, the first of which waits for its slot
+pub record Waiting (hearing : Hearing) : Type 0 where
+  pub place : Place
+  pub left : List Piece
+  pub here : Piecewise hearing place left
+  pub at : ℕ
+  pub places : List ℕ
+  pub calls : List (List Call)
+  pub awaits : Awaits hearing place (at ∷ places) calls
+
 -- a null packet, and those behind it
-walk_null : (coded pid : ℕ) (pages : Pages) (loads : List WriteLoad) (slots : List ℕ) (painted : ℕ → ℕ)
-    (entry : Entry) (m : ℕ) → IsFree pid → AreSlots loads slots
-    → Walk coded pid pages loads slots painted entry m
-    → (slot number i : ℕ) (before : List (List ℕ)) (piece : Piece) (pieces : List Piece) (at : ℕ)
-    (places : List ℕ) (calls : List (List Call))
-    → Piecewise coded pid pages loads slots entry slot number i before (piece ∷ pieces)
-    → IsAhead slot (at ∷ places) → drop number slots ≡ at ∷ places
-    → AreLeft loads painted entry i calls → slot < at
-    → suc m ≤ length (null_packet ∷ laid pid (slot + 1) number (piece ∷ pieces) (at ∷ places))
-    → AreUsedUp coded pid pages before
-    (null_packet ∷ take m (laid pid (slot + 1) number (piece ∷ pieces) (at ∷ places))) (length calls)
-    → Add coded pid pages loads slots painted entry slot before
-    (null_packet ∷ take m (laid pid (slot + 1) number (piece ∷ pieces) (at ∷ places))) calls (suc m)
-walk_null coded pid pages loads slots painted entry m free are walk slot number i before piece pieces at places calls
-    here ahead places_are is_left later many used =
-    let packets = laid pid (slot + 1) number (piece ∷ pieces) (at ∷ places) in
-    let counted = null_count coded pid pages loads slots entry slot number i before (piece ∷ pieces) free here in
-    let behind = used_next coded pid pages 0 before (take m packets) null_packet calls counted used in
-    let found = dropped number slots at places places_are in
-    let same : suc slot ≡ slot + 1 = omega arith in
-    one_more coded pid pages loads slots painted entry slot 0 0 m before null_packet (take m packets) calls
-    (plain_piece coded pid pages 0 before null_packet (hand_after pid coded before) (last_counter pid before)
-    (null_brings pid coded before free)) counted
-    (sym (no_packet loads slots slot painted entry (length loads) are (omega arith)
-    (none_between loads slots slot number are here.goes.passed (omega (arith, later, found.1))))
-    ∙ ap (E loads slots painted entry) same)
-    (walk (slot + 1) number i (before ++ null_packet ∷ []) (piece ∷ pieces) (at ∷ places) calls
-    (goes_on (null_more coded pid pages loads slots entry slot number i before (piece ∷ pieces) free here))
-    (omega arith, ahead.1) places_are is_left (omega arith) behind.1)
+walk_null : (hearing : Hearing) (m : ℕ) → Walk hearing m → (waits : Waiting hearing) → waits.place.slot < waits.at
+    → Tell hearing waits.place (suc m) waits.calls
+    (null_packet
+    ∷ laid hearing.pid (waits.place.slot + 1) waits.place.number waits.left (waits.at ∷ waits.places))
+walk_null hearing m walk waits later =
+    λ many used.
+    let place = waits.place in
+    let awaits = waits.awaits in
+    let packets = laid hearing.pid (place.slot + 1) place.number waits.left (waits.at ∷ waits.places) in
+    let counted = null_count hearing place waits.left waits.here in
+    let behind =
+    used_next hearing.coded hearing.pid hearing.pages 0 place.before (take m packets) null_packet waits.calls counted
+    used
+    in
+    let found = dropped place.number hearing.slots waits.at waits.places awaits.places_are in
+    let same : suc place.slot ≡ place.slot + 1 = omega arith in
+    one_more hearing place.slot 0 0 m place.before null_packet (take m packets) waits.calls
+    (plain_piece hearing.coded hearing.pid hearing.pages 0 place.before null_packet
+    (hand_after hearing.pid hearing.coded place.before) (last_counter hearing.pid place.before)
+    (null_brings hearing.pid hearing.coded place.before hearing.free)) counted
+    (sym (no_packet hearing.loads hearing.slots place.slot hearing.painted hearing.entry (length hearing.loads)
+    hearing.are (omega arith)
+    (none_between hearing.loads hearing.slots place.slot place.number hearing.are waits.here.goes.passed
+    (omega (arith, later, found.1))))
+    ∙ ap (E hearing) same)
+    (walk (place_at (place.slot + 1) place.number place.set (place.before ++ null_packet ∷ [])) waits.left
+    (waits.at ∷ waits.places) waits.calls (goes_on (null_more hearing place waits.left waits.here))
+    (record {
+      ahead = (omega arith, awaits.ahead.1);
+      places_are = awaits.places_are;
+      is_left = awaits.is_left;
+    })
+    (omega arith) behind.1)
+
+-- the pieces behind the next one
+abbrev rest_of : (hearing : Hearing) (waits : Waiting hearing) → List Piece
+rest_of hearing waits =
+    waits.here.pieces ++ (all_pieces waits.here.units ++ all_pieces (units_in waits.here.course.groups))
 
 -- the packet of a piece, and those behind it
-walk_piece : (coded pid : ℕ) (pages : Pages) (loads : List WriteLoad) (slots : List ℕ) (painted : ℕ → ℕ)
-    (entry : Entry) (m : ℕ) → IsFree pid → AreSlots loads slots
-    → Walk coded pid pages loads slots painted entry m
-    → (slot number i : ℕ) (before : List (List ℕ)) (left : List Piece)
-    (here : Piecewise coded pid pages loads slots entry slot number i before left) (at : ℕ) (places : List ℕ)
-    (calls : List (List Call)) → IsAhead slot (at ∷ places) → drop number slots ≡ at ∷ places
-    → AreLeft loads painted entry i calls → at ≡ slot → (rest : List Piece)
-    → rest ≡ here.pieces ++ (all_pieces here.units ++ all_pieces (units_in here.groups))
-    → suc m ≤ length (packet_of pid number here.piece ∷ laid pid (slot + 1) (number + 1) rest places)
-    → AreUsedUp coded pid pages before
-    (packet_of pid number here.piece ∷ take m (laid pid (slot + 1) (number + 1) rest places)) (length calls)
-    → Add coded pid pages loads slots painted entry slot before
-    (packet_of pid number here.piece ∷ take m (laid pid (slot + 1) (number + 1) rest places)) calls (suc m)
-walk_piece coded pid pages loads slots painted entry m free are walk slot number i before left here at places calls
-    ahead places_are is_left reached rest rest_is many used =
-    let packets = laid pid (slot + 1) (number + 1) rest places in
-    let packet = packet_of pid number here.piece in
-    let found = dropped number slots at places places_are in
-    let step =
-    piece_step coded pid pages loads slots painted entry slot number i before left free are here
-    (found.1 ∙ reached) in
-    let behind = used_next coded pid pages step.count before (take m packets) packet calls step.counted used in
-    let following : suc number ≡ number + 1 = omega arith in
-    one_more coded pid pages loads slots painted entry slot (length here.piece.bytes) step.count m before packet
-    (take m packets) calls step.plain step.counted (step.adds calls behind.0 is_left)
-    (walk (slot + 1) (number + 1) step.next (before ++ packet ∷ []) rest places (drop step.count calls)
-    (subst (Position coded pid pages loads slots entry (slot + 1) (number + 1) step.next (before ++ packet ∷ []))
-    (sym rest_is) step.onward)
-    (subst (λ (n : ℕ). IsAhead (n + 1) places) reached ahead.1) (ap (λ n. drop n slots) (sym following) ∙ found.2)
-    (step.left_behind calls is_left) (omega arith) behind.1)
+walk_piece : (hearing : Hearing) (m : ℕ) → Walk hearing m → (waits : Waiting hearing) → waits.at ≡ waits.place.slot
+    → Tell hearing waits.place (suc m) waits.calls
+    (packet_of hearing.pid waits.place.number waits.here.piece
+    ∷ laid hearing.pid (waits.place.slot + 1) (waits.place.number + 1) (rest_of hearing waits) waits.places)
+walk_piece hearing m walk waits reached =
+    λ many used.
+    let place = waits.place in
+    let awaits = waits.awaits in
+    let rest = rest_of hearing waits in
+    let packets = laid hearing.pid (place.slot + 1) (place.number + 1) rest waits.places in
+    let packet = packet_of hearing.pid place.number waits.here.piece in
+    let found = dropped place.number hearing.slots waits.at waits.places awaits.places_are in
+    let step = piece_step hearing place waits.left waits.here (found.1 ∙ reached) in
+    let behind =
+    used_next hearing.coded hearing.pid hearing.pages step.count place.before (take m packets) packet waits.calls
+    step.counted used in
+    let following : suc place.number ≡ place.number + 1 = omega arith in
+    one_more hearing place.slot (length waits.here.piece.bytes) step.count m place.before packet
+    (take m packets) waits.calls step.plain step.counted (step.adds waits.calls behind.0 awaits.is_left)
+    (walk (place_at (place.slot + 1) (place.number + 1) step.next (place.before ++ packet ∷ [])) rest waits.places
+    (drop step.count waits.calls) step.onward
+    (record {
+      ahead = subst (λ (n : ℕ). IsAhead (n + 1) waits.places) reached awaits.ahead.1;
+      places_are = ap (λ n. drop n hearing.slots) (sym following) ∙ found.2;
+      is_left = step.left_behind waits.calls awaits.is_left;
+    })
+    (omega arith) behind.1)
 
 -- one packet more
-walk_more : (coded pid : ℕ) (pages : Pages) (loads : List WriteLoad) (slots : List ℕ) (painted : ℕ → ℕ)
-    (entry : Entry) (m : ℕ) → IsFree pid → AreSlots loads slots
-    → Walk coded pid pages loads slots painted entry m
-    → (slot number i : ℕ) (before : List (List ℕ)) (left : List Piece) (places : List ℕ)
-    (calls : List (List Call)) → Position coded pid pages loads slots entry slot number i before left
-    → IsAhead slot places → drop number slots ≡ places
-    → AreLeft loads painted entry i calls → suc m ≤ length (laid pid slot number left places)
-    → AreUsedUp coded pid pages before (take (suc m) (laid pid slot number left places)) (length calls)
-    → Add coded pid pages loads slots painted entry slot before (take (suc m) (laid pid slot number left places))
-    calls (suc m)
-walk_more coded pid pages loads slots painted entry m free are walk slot number i before left places calls
-    (nothing_left) ahead at is_left many used = absurd (omega arith)
-walk_more coded pid pages loads slots painted entry m free are walk slot number i before left places calls
-    (goes_on here) ahead at is_left many used =
-    subst Goal (sym here.left_is) (by places ahead at) many used
+walk_more : (hearing : Hearing) (m : ℕ) → Walk hearing m → Walk hearing (suc m)
+walk_more hearing m walk =
+    λ place left places calls position awaits. by place left places calls position awaits
   where
-    rest : List Piece
-    rest = here.pieces ++ (all_pieces here.units ++ all_pieces (units_in here.groups))
-
-    Goal : List Piece → Type 0
-    Goal pieces = suc m ≤ length (laid pid slot number pieces places)
-        → AreUsedUp coded pid pages before (take (suc m) (laid pid slot number pieces places)) (length calls)
-        → Add coded pid pages loads slots painted entry slot before
-        (take (suc m) (laid pid slot number pieces places)) calls (suc m)
-
-    From : List (List ℕ) → Type 0
-    From packets = suc m ≤ length packets → AreUsedUp coded pid pages before (take (suc m) packets) (length calls)
-        → Add coded pid pages loads slots painted entry slot before (take (suc m) packets) calls (suc m)
-
-    by : (places : List ℕ) → IsAhead slot places → drop number slots ≡ places
-        → From (laid pid slot number (here.piece ∷ rest) places)
-    by [] ahead places_are = λ many used. absurd (omega arith)
-    by (first ∷ places) ahead places_are =
-        elim (cases_lt slot first) [
+    by : Walk hearing (suc m)
+    by place left places calls (nothing_left) awaits = λ many used. absurd (omega arith)
+    by place left [] calls (goes_on here) awaits =
+        subst (λ (pieces : List Piece). Tell hearing place (suc m) calls (laid_from hearing place pieces []))
+        (sym here.left_is) (λ many used. absurd (omega arith))
+    by place left (first ∷ places) calls (goes_on here) awaits =
+        subst (λ (pieces : List Piece). Tell hearing place (suc m) calls
+        (laid_from hearing place pieces (first ∷ places))) (sym here.left_is)
+        (elim (cases_lt place.slot first) [
           | inl later ↦
-              subst From (sym (laid_later pid slot number first here.piece rest places later))
-              (walk_null coded pid pages loads slots painted entry m free are walk slot number i before here.piece rest
-              first places calls
-              (subst (Piecewise coded pid pages loads slots entry slot number i before) here.left_is here) ahead
-              places_are is_left later)
+              subst (Tell hearing place (suc m) calls)
+              (sym (laid_later hearing.pid place.slot place.number first here.piece rest places later))
+              (walk_null hearing m walk
+              (waiting (here.piece ∷ rest) (subst (Piecewise hearing place) here.left_is here)) later)
           | inr most ↦
-              let least = ahead.0 in
-              let same : first ≡ slot = omega arith in
-              subst From (sym (laid_here pid slot number first here.piece rest places same))
-              (walk_piece coded pid pages loads slots painted entry m free are walk slot number i before left here first
-              places calls ahead places_are is_left same rest refl)
-        ]
+              let least = awaits.ahead.0 in
+              let same : first ≡ place.slot = omega arith in
+              subst (Tell hearing place (suc m) calls)
+              (sym (laid_here hearing.pid place.slot place.number first here.piece rest places same))
+              (walk_piece hearing m walk (waiting left here) same)
+        ])
+      where
+        rest : List Piece
+        rest = here.pieces ++ (all_pieces here.units ++ all_pieces (units_in here.course.groups))
+
+        waiting : (left : List Piece) → Piecewise hearing place left → Waiting hearing
+        waiting left here = record {
+          place = place;
+          left = left;
+          here = here;
+          at = first;
+          places = places;
+          calls = calls;
+          awaits = awaits;
+        }
 
 -- the packets of sets in pieces, from any of them on, add the calls of the scheduled sets
-pub walk : (coded pid : ℕ) (pages : Pages) (loads : List WriteLoad) (slots : List ℕ) (painted : ℕ → ℕ)
-    (entry : Entry) (m : ℕ) → IsFree pid → AreSlots loads slots
-    → Walk coded pid pages loads slots painted entry m
-walk coded pid pages loads slots painted entry zero free are = walk_none coded pid pages loads slots painted entry
-walk coded pid pages loads slots painted entry (suc m) free are =
-    walk_more coded pid pages loads slots painted entry m free are
-    (walk coded pid pages loads slots painted entry m free are)
+pub walk : (hearing : Hearing) (m : ℕ) → Walk hearing m
+walk hearing zero = walk_none hearing
+walk hearing (suc m) = walk_more hearing m (walk hearing m)

@@ -12,10 +12,11 @@ use Rattle.stream_syntax.specs.Units.{event_at, hand_after, last_counter}
 use Rattle.decoder_model.specs.declared.pages.Pages.{Pages}
 use Rattle.decoder_model.specs.PacketArrivals.{packet_arrival}
 use Rattle.scheduled_level_laws.specs.EnteredCalls.{Entry, from_of, heard_load, entered_calls}
+use Rattle.scheduled_level_laws.proofs.EnteredSums.{AreSlots}
 use Rattle.slot_stream.specs.SlotStream.{Piece, all_pieces, IsPiece}
 use Rattle.received_level_laws.specs.StreamCalls.{itself, count_with, calls_of_packet, arrived_in, calls_from}
 use Rattle.shown_stream.proofs.Calls.BroughtPieces.{IsReady}
-use Rattle.slot_stream.proofs.SentPieces.{AreFurther, FollowsOn}
+use Rattle.slot_stream.proofs.SentPieces.{IsFree, AreFurther, FollowsOn}
 use Rattle.slot_stream.proofs.SentStream.{first_piece, further_of, its_pieces, its_bytes, its_first, its_further}
 use Rattle.shown_stream.proofs.Sent.SetPackets.{bytes_in}
 use Rattle.shown_stream.proofs.Calls.SetsInHand.{HaveCome, IsPlain, plain_calls}
@@ -71,8 +72,33 @@ unit_has_bytes coded unit whole = let long = whole.bounded in omega arith
 
 -- ---- a packet and those behind it
 
-abbrev pub E : List WriteLoad → List ℕ → (ℕ → ℕ) → Entry → ℕ → List Call
-E loads slots painted entry bound = entered_calls loads slots bound painted entry (length loads)
+-- which packets are heard: those of a schedule at its slots, on a PID that null packets don't have, by a receiver
+-- that enters somewhere
+pub record Hearing : Type 0 where
+  pub coded : ℕ
+  pub pid : ℕ
+  pub pages : Pages
+  pub loads : List WriteLoad
+  pub slots : List ℕ
+  pub painted : ℕ → ℕ
+  pub entry : Entry
+  pub free : IsFree pid
+  pub are : AreSlots loads slots
+
+-- where the packets stand: the next slot, the number of the next packet and that of its set, and the packets before it
+pub record Place : Type 0 where
+  pub slot : ℕ
+  pub number : ℕ
+  pub set : ℕ
+  pub before : List (List ℕ)
+
+abbrev pub place_at : ℕ → ℕ → ℕ → List (List ℕ) → Place
+place_at slot number set before = record { slot = slot; number = number; set = set; before = before }
+
+-- the calls of the schedule before a slot
+abbrev pub E : Hearing → ℕ → List Call
+E hearing bound =
+    entered_calls hearing.loads hearing.slots bound hearing.painted hearing.entry (length hearing.loads)
 
 -- so many calls of sets are left for the packets behind others, and no more
 abbrev pub AreUsedUp : ℕ → ℕ → Pages → List (List ℕ) → List (List ℕ) → ℕ → Type 0
@@ -81,38 +107,41 @@ AreUsedUp coded pid pages before (packet ∷ packets) n = (count_with coded pid 
     × AreUsedUp coded pid pages (before ++ packet ∷ []) packets (n - count_with coded pid pages before packet)
 
 -- the packets from a slot on add to the calls so far those of the slots that they have
-abbrev pub Add : (coded pid : ℕ) (pages : Pages) (loads : List WriteLoad) (slots : List ℕ) (painted : ℕ → ℕ)
-    (entry : Entry) (slot : ℕ) (before packets : List (List ℕ)) (left : List (List Call)) (m : ℕ) → Type 0
-Add coded pid pages loads slots painted entry slot before packets left m =
-    reverse (calls_from itself coded pid pages slot before packets left)
-    ++ E loads slots painted entry slot ≡ E loads slots painted entry (slot + m)
+abbrev pub Add : (hearing : Hearing) (slot : ℕ) (before packets : List (List ℕ)) (left : List (List Call)) (m : ℕ)
+    → Type 0
+Add hearing slot before packets left m =
+    reverse (calls_from itself hearing.coded hearing.pid hearing.pages slot before packets left)
+    ++ E hearing slot ≡ E hearing (slot + m)
 
-pub one_more : (coded pid : ℕ) (pages : Pages) (loads : List WriteLoad) (slots : List ℕ) (painted : ℕ → ℕ)
-    (entry : Entry) (slot bytes count m : ℕ) (before : List (List ℕ)) (packet : List ℕ)
+pub one_more : (hearing : Hearing) (slot bytes count m : ℕ) (before : List (List ℕ)) (packet : List ℕ)
     (packets : List (List ℕ)) (left : List (List Call))
-    → IsPlain coded pid pages before packet bytes → count_with coded pid pages before packet ≡ count
+    → IsPlain hearing.coded hearing.pid hearing.pages before packet bytes → count_with hearing.coded hearing.pid
+    hearing.pages before packet ≡ count
     → reverse (arrived_in itself slot bytes ++ flat_map (λ (calls : List Call). calls) (take count left))
-    ++ E loads slots painted entry slot ≡ E loads slots painted entry (slot + 1)
-    → Add coded pid pages loads slots painted entry (slot + 1) (before ++ packet ∷ []) packets (drop count left) m
-    → Add coded pid pages loads slots painted entry slot before (packet ∷ packets) left (suc m)
-one_more coded pid pages loads slots painted entry slot bytes count m before packet packets left plain counted here
+    ++ E hearing slot ≡ E hearing (slot + 1)
+    → Add hearing (slot + 1) (before ++ packet ∷ []) packets (drop count left) m
+    → Add hearing slot before (packet ∷ packets) left (suc m)
+one_more hearing slot bytes count m before packet packets left plain counted here
     onward =
     let own = arrived_in itself slot bytes ++ flat_map (λ (calls : List Call). calls) (take count left) in
-    let behind = calls_from itself coded pid pages (slot + 1) (before ++ packet ∷ []) packets (drop count left) in
+    let behind = calls_from itself hearing.coded hearing.pid hearing.pages (slot + 1) (before ++ packet ∷ []) packets
+    (drop count left) in
     let same : slot + 1 + m ≡ slot + suc m = omega arith in
     ap (λ n. reverse
-    (calls_of_packet itself (event_at pid coded before packet) (packet_arrival coded pid pages before packet) slot
+    (calls_of_packet itself (event_at hearing.pid hearing.coded before packet)
+    (packet_arrival hearing.coded hearing.pid hearing.pages before packet) slot
     (flat_map (λ (calls : List Call). calls) (take n left))
-    ++ calls_from itself coded pid pages (slot + 1) (before ++ packet ∷ []) packets (drop n left))
-    ++ E loads slots painted entry slot) counted
-    ∙ ap (λ calls. reverse (calls ++ behind) ++ E loads slots painted entry slot)
-    (plain_calls coded pid pages slot bytes before packet
+    ++ calls_from itself hearing.coded hearing.pid hearing.pages (slot + 1) (before ++ packet ∷ []) packets
+    (drop n left))
+    ++ E hearing slot) counted
+    ∙ ap (λ calls. reverse (calls ++ behind) ++ E hearing slot)
+    (plain_calls hearing.coded hearing.pid hearing.pages slot bytes before packet
     (flat_map (λ (calls : List Call). calls) (take count left)) plain)
-    ∙ ap (λ calls. calls ++ E loads slots painted entry slot) (reverse-append own behind)
-    ∙ append_assoc (reverse behind) (reverse own) (E loads slots painted entry slot)
+    ∙ ap (λ calls. calls ++ E hearing slot) (reverse-append own behind)
+    ∙ append_assoc (reverse behind) (reverse own) (E hearing slot)
     ∙ ap (λ past. reverse behind ++ past) here
     ∙ onward
-    ∙ ap (E loads slots painted entry) same
+    ∙ ap (E hearing) same
 
 -- ---- what is left to send
 
@@ -141,55 +170,59 @@ abbrev pub AreLeft : List WriteLoad → (ℕ → ℕ) → Entry → ℕ → List
 AreLeft loads painted entry i left =
     (j : ℕ) → j < length left → get_or left j [] ≡ SetWhole (heard_load loads painted entry (i + j)) ∷ []
 
--- behind these packets, packet k of set i is next: what came, and what is left
-pub record Goes (coded pid : ℕ) (pages : Pages) (loads : List WriteLoad) (slots : List ℕ) (entry : Entry)
-    (slot number i k : ℕ) (before : List (List ℕ)) (sets : List TimedSet) (set : TimedSet) (u : ℕ)
-    (groups : List (List (List ℕ))) (later : List TimedSet) : Type 0 where
-  pub inside : i < length loads
-  pub numbered : number ≡ first_packet loads i + k
-  pub begun : entry.set ≤ i
-  pub counted : from_of entry i ≤ k
-  pub passed : (q : ℕ) → q < number → slice_index slots q < slot
-  pub follows : FollowsOn (last_counter pid before) number
-  pub came : HaveCome coded pid pages before sets set u
-  pub all : AllByRecursion (IsTimedSet coded pages) sets
-  pub is : IsTimedSet coded pages set
-  pub apart : HaveDifferentTimes (sets ++ set ∷ later)
-  pub sent : AreSentSets coded pages loads (suc i) groups later
-
--- the next piece is one of a unit: the next one of the set
-pub record Piecewise (coded pid : ℕ) (pages : Pages) (loads : List WriteLoad) (slots : List ℕ) (entry : Entry)
-    (slot number i : ℕ) (before : List (List ℕ)) (left : List Piece) : Type 0 where
+-- how far the sets are sent: packet k of a set is next, u units of it and these sets came, and those are left
+pub record Course : Type 0 where
   pub k : ℕ
   pub sets : List TimedSet
   pub set : TimedSet
   pub u : ℕ
   pub groups : List (List (List ℕ))
   pub later : List TimedSet
-  pub goes : Goes coded pid pages loads slots entry slot number i k before sets set u groups later
+
+-- behind these packets that packet is next: what came, and what is left
+pub record Goes (hearing : Hearing) (place : Place) (course : Course) : Type 0 where
+  pub inside : place.set < length hearing.loads
+  pub numbered : place.number ≡ first_packet hearing.loads place.set + course.k
+  pub begun : hearing.entry.set ≤ place.set
+  pub counted : from_of hearing.entry place.set ≤ course.k
+  pub passed : (q : ℕ) → q < place.number → slice_index hearing.slots q < place.slot
+  pub follows : FollowsOn (last_counter hearing.pid place.before) place.number
+  pub came : HaveCome hearing.coded hearing.pid hearing.pages place.before course.sets course.set course.u
+  pub all : AllByRecursion (IsTimedSet hearing.coded hearing.pages) course.sets
+  pub is : IsTimedSet hearing.coded hearing.pages course.set
+  pub apart : HaveDifferentTimes (course.sets ++ course.set ∷ course.later)
+  pub sent : AreSentSets hearing.coded hearing.pages hearing.loads (suc place.set) course.groups course.later
+
+-- the next piece is one of a unit: the next one of the set
+pub record Piecewise (hearing : Hearing)
+    (place : Place) (left : List Piece) : Type 0 where
+  pub course : Course
+  pub goes : Goes hearing place course
   pub one : SetUnit
-  pub found : slice_get set.units u ≡ Some one
+  pub found : slice_get course.set.units course.u ≡ Some one
   pub unit : List ℕ
-  pub unit_is : IsUnitOf pages unit (timed set.time one)
-  pub whole : IsUnit coded unit
+  pub unit_is : IsUnitOf hearing.pages unit (timed course.set.time one)
+  pub whole : IsUnit hearing.coded unit
   pub start : Bool
   pub front : List ℕ
   pub piece : Piece
   pub pieces : List Piece
   pub rest : ArePiecesOf start front (piece ∷ pieces) unit
-  pub ready : IsReady start (hand_after pid coded before) front
+  pub ready : IsReady start (hand_after hearing.pid hearing.coded place.before) front
   pub units : List (List ℕ)
-  pub units_are : AllZip (IsUnitOf pages) units (map (timed set.time) (drop (suc u) set.units))
-  pub units_whole : AllByRecursion (IsUnit coded) units
-  pub own : drop k (payloads_of (units_of loads i)) ≡ map bytes_in ((piece ∷ pieces) ++ all_pieces units)
-  pub left_is : left ≡ (piece ∷ pieces) ++ (all_pieces units ++ all_pieces (units_in groups))
+  pub units_are : AllZip (IsUnitOf hearing.pages) units
+      (map (timed course.set.time) (drop (suc course.u) course.set.units))
+  pub units_whole : AllByRecursion (IsUnit hearing.coded) units
+  pub own : drop course.k (payloads_of (units_of hearing.loads place.set)) ≡ map bytes_in
+      ((piece ∷ pieces) ++ all_pieces units)
+  pub left_is : left ≡ (piece ∷ pieces) ++ (all_pieces units ++ all_pieces (units_in course.groups))
 
 -- packets go on with the pieces of sets, or nothing is left
-pub data Position (coded pid : ℕ) (pages : Pages) (loads : List WriteLoad) (slots : List ℕ) (entry : Entry)
-    (slot number i : ℕ) (before : List (List ℕ)) : List Piece → Type 0 where
-  nothing_left : Position coded pid pages loads slots entry slot number i before []
-  goes_on : {left : List Piece} → Piecewise coded pid pages loads slots entry slot number i before left
-      → Position coded pid pages loads slots entry slot number i before left
+pub data Position (hearing : Hearing)
+    (place : Place) : List Piece → Type 0 where
+  nothing_left : Position hearing place []
+  goes_on : {left : List Piece} → Piecewise hearing place left
+      → Position hearing place left
 
 -- ---- lists
 
@@ -213,48 +246,45 @@ unit_at_front pages time (suc u) (one ∷ units) unit rest are = unit_at_front p
 
 -- ---- a unit begins
 
+-- units come whole, and the first of them is next
+pub record AreNext (hearing : Hearing) (place : Place) (course : Course) (unit : List ℕ) (units : List (List ℕ))
+    : Type 0 where
+  pub units_are : AllZip (IsUnitOf hearing.pages) (unit ∷ units)
+      (map (timed course.set.time) (drop course.u course.set.units))
+  pub whole : AllByRecursion (IsUnit hearing.coded) (unit ∷ units)
+  pub hand : hand_after hearing.pid hearing.coded place.before ≡ None
+  pub own : drop course.k (payloads_of (units_of hearing.loads place.set)) ≡ map bytes_in (all_pieces (unit ∷ units))
+
 -- the next unit of a set begins with the next packet
-pub begin_unit : (coded pid : ℕ) (pages : Pages) (loads : List WriteLoad) (slots : List ℕ) (entry : Entry)
-    (slot number i k : ℕ) (before : List (List ℕ)) (sets : List TimedSet) (set : TimedSet) (u : ℕ)
-    (groups : List (List (List ℕ))) (later : List TimedSet)
-    (unit : List ℕ) (units : List (List ℕ))
-    → Goes coded pid pages loads slots entry slot number i k before sets set u groups later
-    → AllZip (IsUnitOf pages) (unit ∷ units) (map (timed set.time) (drop u set.units))
-    → AllByRecursion (IsUnit coded) (unit ∷ units)
-    → hand_after pid coded before ≡ None
-    → drop k (payloads_of (units_of loads i)) ≡ map bytes_in (all_pieces (unit ∷ units))
-    → Piecewise coded pid pages loads slots entry slot number i before
-    (all_pieces (unit ∷ units) ++ all_pieces (units_in groups))
-begin_unit coded pid pages loads slots entry slot number i k before sets set u groups later unit units goes are whole
-    hand own =
-    let some = unit_has_bytes coded unit whole.0 in
-    let at = unit_at_front pages set.time u set.units unit units are in
+pub begin_unit : (hearing : Hearing) (place : Place) (course : Course) (unit : List ℕ) (units : List (List ℕ))
+    → Goes hearing place course → AreNext hearing place course unit units
+    → Piecewise hearing place (all_pieces (unit ∷ units) ++ all_pieces (units_in course.groups))
+begin_unit hearing place course unit units goes next =
+    let set = course.set in
+    let some = unit_has_bytes hearing.coded unit next.whole.0 in
+    let at = unit_at_front hearing.pages set.time course.u set.units unit units next.units_are in
     let all : all_pieces (unit ∷ units) ≡ (first_piece unit ∷ further_of unit) ++ all_pieces units =
     ap (λ pieces. pieces ++ all_pieces units) (its_pieces unit some) in
     record {
-      k = k;
-      sets = sets;
-      set = set;
-      u = u;
-      groups = groups;
-      later = later;
+      course = course;
       goes = goes;
       one = at.0;
       found = at.1;
       unit = unit;
       unit_is = at.2;
-      whole = whole.0;
+      whole = next.whole.0;
       start = true;
       front = [];
       piece = first_piece unit;
       pieces = further_of unit;
       rest = unit_pieces unit some;
-      ready = (hand, refl);
+      ready = (next.hand, refl);
       units = units;
       units_are = at.3;
-      units_whole = whole.1;
-      own = own ∙ ap (map bytes_in) all;
+      units_whole = next.whole.1;
+      own = next.own ∙ ap (map bytes_in) all;
       left_is =
-          ap (λ pieces. pieces ++ all_pieces (units_in groups)) all
-          ∙ append_assoc (first_piece unit ∷ further_of unit) (all_pieces units) (all_pieces (units_in groups));
+          ap (λ pieces. pieces ++ all_pieces (units_in course.groups)) all
+          ∙ append_assoc (first_piece unit ∷ further_of unit) (all_pieces units)
+          (all_pieces (units_in course.groups));
     }

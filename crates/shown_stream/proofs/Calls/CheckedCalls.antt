@@ -12,9 +12,7 @@ use Rattle.sub_base.specs.Pace.{pace_of, tick_of}
 use Rattle.sub_base.specs.Profile.{profile_of}
 use Rattle.sub_base.specs.declared.load.WriteLoad.{WriteLoad}
 use Rattle.sub_base.specs.declared.pace.Pace.{Pace}
-use Rattle.sub_base.specs.declared.profile.ProfileName.{ProfileName}
 use Rattle.cue_list.specs.Sound.{IsTick}
-use Rattle.cue_list.specs.declared.script.Script.{Script}
 use Rattle.page_epoch.specs.declared.planned_set.PlannedSet.{PlannedSet}
 use Rattle.buffer_model.specs.Calls.{Call, Arrived, SetWhole, Dropped}
 use Rattle.buffer_model.specs.Within.{AreWithin, AllHeard, has_arrived, moved}
@@ -24,7 +22,6 @@ use Rattle.schedule.specs.Slots.{Timetable, IsSchedule, slot_of, slots_of, start
 use Rattle.schedule.proofs.AnswerLaws.{rises}
 use Rattle.schedule.proofs.EarliestLaws.{rise-le}
 use Rattle.schedule.proofs.SumLaws.{sum_below-suc, sum_below-rises}
-use Rattle.decoder_model.specs.Frames.{only}
 use Rattle.decoder_model.specs.Streams.{SentSet, entered_at}
 use Rattle.scheduled_level_laws.specs.EnteredCalls.{Entry}
 use Rattle.scheduled_level_laws.proofs.EnteredHeard.{entered_heard}
@@ -33,7 +30,7 @@ use Rattle.received_level_laws.proofs.LaterSlots.{told_later}
 use Rattle.sent_sets.proofs.PacketCounts.{as_many}
 use Rattle.sent_sets.proofs.SlotPlaces.{start_is}
 use Rattle.slot_stream.proofs.SentPieces.{IsFree}
-use Rattle.shown_stream.specs.Compiled.{IsCompiledTo, sent_pace}
+use Rattle.shown_stream.specs.Compiled.{IsCompiledTo, sent_pace, Compiling, received_by}
 use Rattle.shown_stream.specs.SentSets.{sent_set, sent_from, sent_sets, times_from, first_times_from}
 use Rattle.shown_stream.proofs.Shown.FirstTimes.{first_of_all_times}
 use Rattle.shown_stream.specs.Shows.{IsAnchorOf, Suits}
@@ -47,6 +44,7 @@ use Rattle.shown_stream.proofs.Late.LatePlaces.{count_sets}
 use Rattle.shown_stream.proofs.Sent.CompiledPackets.{packets_in, ArePackets}
 use Rattle.shown_stream.proofs.Sent.CompiledWithin.{compiled_is_entry}
 use Rattle.shown_stream.proofs.Sent.PlannedTimes.{pts_of, times_in_span}
+use Rattle.shown_stream.specs.SentPlan.{sent_plan}
 
 -- ---- an anchor: the tick of the first slot
 
@@ -128,12 +126,12 @@ come_suit anchor missed number table (set ∷ sets) each =
     by behind false none = behind
 
 -- the tick of the first slot suits the sets of which a packet comes: none is shown before
-slot_suits : (name : ProfileName) (pid page : ℕ) (script : Script) (bytes : List ℕ)
-    (compiled : IsCompiledTo name pid page script bytes) → ArePackets name pid page script bytes compiled
+slot_suits : (compiling : Compiling) (bytes : List ℕ)
+    (compiled : IsCompiledTo compiling bytes) → ArePackets compiling bytes compiled
     → (missed : ℕ)
     → IsAnchorOf (times_from missed (sent_sets compiled.table compiled.sets))
-    (tick_of (sent_pace name script) missed)
-slot_suits name pid page script bytes compiled known missed =
+    (tick_of (sent_pace compiling.profile compiling.script) missed)
+slot_suits compiling bytes compiled known missed =
     All-map (Suits anchor) (λ (set : SentSet). set.time)
     (filter (λ (set : SentSet). some_there missed set.places) (sent_sets table sets))
     (All-from_recursion (λ (set : SentSet). Suits anchor set.time)
@@ -150,7 +148,7 @@ slot_suits name pid page script bytes compiled known missed =
     table = compiled.table
 
     pace : Pace
-    pace = sent_pace name script
+    pace = sent_pace compiling.profile compiling.script
 
     anchor : ℕ
     anchor = tick_of pace missed
@@ -158,7 +156,7 @@ slot_suits name pid page script bytes compiled known missed =
     many : length loads ≡ length sets
     many =
         as_many loads compiled.units compiled.sized
-        ∙ (count_sets script page sets compiled.units known.sent known.are.are).1
+        ∙ (count_sets compiling.script compiling.page sets compiled.units known.sent known.are.are).1
 
     suits : (i : ℕ) (set : PlannedSet) → slice_get sets i ≡ Some set
         → some_there missed (slots_of table (0 + i)) ≡ true → Suits anchor set.pts
@@ -172,9 +170,10 @@ slot_suits name pid page script bytes compiled known missed =
         let done = compiled.schedule.dones i inside in
         let ready = compiled.on_time.ready i inside in
         let time : (load_of loads i).pts ≡ set.pts =
-        sym (planned_times script sets loads compiled.planned.asked i there) ∙ time_found sets i set found in
+        sym (planned_times compiling.script sets loads compiled.planned.asked i there) ∙ time_found sets i set found in
         let tick =
-        ticks_found script.origin sets i set (times_in_span script (profile_of name) sets compiled.planned.plan)
+        ticks_found compiling.script.origin sets i set
+        (times_in_span compiling.script (profile_of compiling.profile) sets compiled.planned.plan)
         found in
         let early = tick.early in
         (omega (arith, late, done, ready, time), omega (arith, early))
@@ -195,20 +194,21 @@ moved_heard by (Dropped ∷ past) h = moved_heard by past h
 
 -- of a stream that is entered behind any number of its packets, and whose first packet is taken for the first one of
 -- all, at its own tick, the calls are within buffer and times
-pub checked_calls : (name : ProfileName) (pid page : ℕ) (script : Script) (bytes : List ℕ) → IsFree pid
-    → (compiled : IsCompiledTo name pid page script bytes) (known : ArePackets name pid page script bytes compiled)
+pub checked_calls : (compiling : Compiling) (bytes : List ℕ) → IsFree compiling.pid
+    → (compiled : IsCompiledTo compiling bytes) (known : ArePackets compiling bytes compiled)
     → (missed : ℕ) (calls : List Call)
-    → AreCallsOf (profile_of name) pid (only page) (tick_of (sent_pace name script) missed) 0 true
-    (entered_at missed (packets_in name pid page script bytes compiled)) calls
-    → AreWithin (pace_of (tick_of (sent_pace name script) missed) (profile_of name)) calls
-checked_calls name pid page script bytes free compiled known missed calls given =
+    → AreCallsOf (received_by compiling (tick_of (sent_pace compiling.profile compiling.script) missed)) 0 true
+    (entered_at missed (packets_in compiling bytes compiled)) calls
+    → AreWithin (pace_of (tick_of (sent_pace compiling.profile compiling.script) missed) (profile_of compiling.profile))
+    calls
+checked_calls compiling bytes free compiled known missed calls given =
     moved_within pace missed calls (moved_heard missed calls all_heard) (stays.within (length packets) later before)
   where
     packets : List (List ℕ)
-    packets = packets_in name pid page script bytes compiled
+    packets = packets_in compiling bytes compiled
 
     pace : Pace
-    pace = sent_pace name script
+    pace = sent_pace compiling.profile compiling.script
 
     anchor : ℕ
     anchor = tick_of pace missed
@@ -219,30 +219,30 @@ checked_calls name pid page script bytes free compiled known missed calls given 
     suits : IsAnchorOf (first_times_from missed (sent_sets compiled.table compiled.sets)) anchor
     suits =
         first_of_all_times anchor missed (sent_sets compiled.table compiled.sets)
-        (slot_suits name pid page script bytes compiled known missed)
+        (slot_suits compiling bytes compiled known missed)
 
-    stays : StaysWithin name pid (only page) script compiled.sets compiled.table packets missed anchor
-    stays = compiled_stays name pid page script bytes free compiled known missed anchor suits
+    stays : StaysWithin (sent_plan compiling compiled.sets compiled.table) packets missed anchor
+    stays = compiled_stays compiling bytes free compiled known missed anchor suits
 
-    before : AreCallsBefore (length packets) name pid (only page) anchor missed packets later
+    before : AreCallsBefore (length packets) (received_by compiling anchor) missed packets later
     before =
         stays.ended later
-        (told_later (profile_of name) pid (only page) anchor missed true (entered_at missed packets) calls given)
+        (told_later (received_by compiling anchor) missed true (entered_at missed packets) calls given)
 
-    late : IsEnteredLate name pid page script bytes compiled known.sent missed
-    late = compiled_late name pid page script bytes free compiled known missed
+    late : IsEnteredLate compiling bytes compiled known.sent missed
+    late = compiled_late compiling bytes free compiled known missed
 
     painted : ℕ → ℕ
     painted = heard_painting compiled.loads late.first
 
     entry : Entry
-    entry = compiled_entry name pid page script bytes compiled known compiled.each missed
+    entry = compiled_entry compiling bytes compiled known compiled.each missed
 
     all_heard : AllHeard later
     all_heard =
         subst AllHeard
-        (sym (heard_calls name pid page script bytes free compiled known compiled.each anchor missed (length packets)
+        (sym (heard_calls compiling bytes free compiled known compiled.each anchor missed (length packets)
         suits late later before))
         (entered_heard compiled.loads compiled.table.slots painted (length packets) entry (length compiled.loads)
-        (compiled_is_entry name pid page script bytes compiled known compiled.each painted missed
+        (compiled_is_entry compiling bytes compiled known compiled.each painted missed
         (λ i inside. heard_most compiled.loads late.first i)) (omega arith))

@@ -6,7 +6,6 @@ use Rattle.std.proofs.lemmas.List.{length-map, length-reverse}
 use Rattle.sub_base.specs.Pace.{pace_of}
 use Rattle.sub_base.specs.Profile.{profile_of}
 use Rattle.sub_base.specs.declared.load.WriteLoad.{WriteLoad}
-use Rattle.sub_base.specs.declared.profile.ProfileName.{ProfileName}
 use Rattle.cue_list.specs.declared.script.Script.{Script}
 use Rattle.page_epoch.specs.declared.planned_set.PlannedSet.{PlannedSet}
 use Rattle.buffer_model.specs.Calls.{Call}
@@ -18,7 +17,8 @@ use Rattle.decoder_model.specs.Sets.{sets_of}
 use Rattle.decoder_model.specs.Streams.{entered_at}
 use Rattle.decoder_model.proofs.SentUnits.{all_taken}
 use Rattle.scheduled_level_laws.specs.EnteredCalls.{Entry, entered_calls}
-use Rattle.shown_stream.specs.Compiled.{AreSizedAs, all_units, IsCompiledTo}
+use Rattle.shown_stream.specs.Compiled.{all_units, IsCompiledTo, Compiling, received_by}
+use Rattle.sent_sets.specs.SentStream.{AreSizedAs}
 use Rattle.slot_stream.specs.SlotStream.{all_pieces}
 use Rattle.received_level_laws.specs.StreamCalls.{itself, set_call, set_calls, calls_from, AreCallsOf}
 use Rattle.received_level_laws.proofs.EachBehind.{each_count}
@@ -102,13 +102,14 @@ sets_from coded page script loads units i (set ∷ sets) (packets ∷ groups) (o
     )
 
 -- a compiled stream is one of scheduled sets in slots
-pub compiled_stream : (name : ProfileName) (pid page : ℕ) (script : Script) (bytes : List ℕ)
-    (compiled : IsCompiledTo name pid page script bytes) (known : ArePackets name pid page script bytes compiled)
+pub compiled_stream : (compiling : Compiling) (bytes : List ℕ)
+    (compiled : IsCompiledTo compiling bytes) (known : ArePackets compiling bytes compiled)
     → All IsLoad compiled.loads
-    → IsSentStream (profile_of name).coded (only page) compiled.loads compiled.table.slots compiled.units known.sent
-compiled_stream name pid page script bytes compiled known loads_are =
+    → IsSentStream (profile_of compiling.profile).coded (only compiling.page) compiled.loads compiled.table.slots
+    compiled.units known.sent
+compiled_stream compiling bytes compiled known loads_are =
     let loads = compiled.loads in
-    let pace = pace_of script.origin (profile_of name) in
+    let pace = pace_of compiling.script.origin (profile_of compiling.profile) in
     let all = as_many loads compiled.units compiled.sized in
     record {
       are =
@@ -120,7 +121,8 @@ compiled_stream name pid page script bytes compiled known loads_are =
           };
       ahead = slots_rise loads (length loads) pace compiled.table compiled.schedule;
       sent =
-          sets_from (profile_of name).coded page script loads compiled.units 0 compiled.sets compiled.units known.sent
+          sets_from (profile_of compiling.profile).coded compiling.page compiling.script loads compiled.units 0
+          compiled.sets compiled.units known.sent
           compiled.sized known.are.are known.are.carry.each known.are.carry.whole known.units
           (λ j. ap (λ n. get_or compiled.units n []) (omega arith)) (omega (arith, all));
       apart = known.apart;
@@ -130,49 +132,52 @@ compiled_stream name pid page script bytes compiled known loads_are =
     }
 
 -- where a compiled stream is entered
-abbrev pub compiled_entry : (name : ProfileName) (pid page : ℕ) (script : Script) (bytes : List ℕ)
-    (compiled : IsCompiledTo name pid page script bytes) (known : ArePackets name pid page script bytes compiled)
+abbrev pub compiled_entry : (compiling : Compiling) (bytes : List ℕ)
+    (compiled : IsCompiledTo compiling bytes) (known : ArePackets compiling bytes compiled)
     → All IsLoad compiled.loads → ℕ → Entry
-compiled_entry name pid page script bytes compiled known loads_are missed =
-    entry_of (profile_of name).coded (only page) compiled.loads compiled.table.slots compiled.units known.sent missed
-    (compiled_stream name pid page script bytes compiled known loads_are)
+compiled_entry compiling bytes compiled known loads_are missed =
+    entry_of (profile_of compiling.profile).coded (only compiling.page) compiled.loads compiled.table.slots
+    compiled.units known.sent missed
+    (compiled_stream compiling bytes compiled known loads_are)
 
 -- ---- its calls
 
 -- the calls of a compiled stream that is entered behind so many packets, up to any packet, are those of its scheduled
 -- sets; where each set is received at its own time, with as much painting as is said of it
-pub compiled_calls : (name : ProfileName) (pid page : ℕ) (script : Script) (bytes : List ℕ) → IsFree pid
-    → (compiled : IsCompiledTo name pid page script bytes) (known : ArePackets name pid page script bytes compiled)
+pub compiled_calls : (compiling : Compiling) (bytes : List ℕ) → IsFree compiling.pid
+    → (compiled : IsCompiledTo compiling bytes) (known : ArePackets compiling bytes compiled)
     (loads_are : All IsLoad compiled.loads)
     → (painted : ℕ → ℕ) (anchor missed m : ℕ) (calls : List Call)
-    → m ≤ length (entered_at missed (packets_in name pid page script bytes compiled))
-    → (given : AreCallsOf (profile_of name) pid (only page) anchor missed false
-    (take m (entered_at missed (packets_in name pid page script bytes compiled))) calls)
-    → AreLeft compiled.loads painted (compiled_entry name pid page script bytes compiled known loads_are missed)
-    (compiled_entry name pid page script bytes compiled known loads_are missed).set
-    (set_calls (profile_of name) anchor (reverse given.past))
+    → m ≤ length (entered_at missed (packets_in compiling bytes compiled))
+    → (given : AreCallsOf (received_by compiling anchor) missed false
+    (take m (entered_at missed (packets_in compiling bytes compiled))) calls)
+    → AreLeft compiled.loads painted (compiled_entry compiling bytes compiled known loads_are missed)
+    (compiled_entry compiling bytes compiled known loads_are missed).set
+    (set_calls (profile_of compiling.profile) anchor (reverse given.past))
     → calls ≡ entered_calls compiled.loads compiled.table.slots (missed + m) painted
-    (compiled_entry name pid page script bytes compiled known loads_are missed) (length compiled.loads)
-compiled_calls name pid page script bytes free compiled known loads_are painted anchor missed m calls within given
+    (compiled_entry compiling bytes compiled known loads_are missed) (length compiled.loads)
+compiled_calls compiling bytes free compiled known loads_are painted anchor missed m calls within given
     kept =
-    let coded = (profile_of name).coded in
-    let packets = take m (entered_at missed (packets_in name pid page script bytes compiled)) in
-    let left = set_calls (profile_of name) anchor (reverse given.past) in
-    let is = compiled_stream name pid page script bytes compiled known loads_are in
+    let coded = (profile_of compiling.profile).coded in
+    let packets = take m (entered_at missed (packets_in compiling bytes compiled)) in
+    let left = set_calls (profile_of compiling.profile) anchor (reverse given.past) in
+    let is = compiled_stream compiling bytes compiled known loads_are in
     let units = all_units compiled.units in
-    let sound : AllByRecursion (λ packet. packet_fault pid packet ≡ None) packets =
-    all_take (λ packet. packet_fault pid packet ≡ None) m
-    (entered_at missed (packets_in name pid page script bytes compiled))
-    (all_drop (λ packet. packet_fault pid packet ≡ None) missed (packets_in name pid page script bytes compiled)
-    (none_refused pid 0 0 (all_pieces units) compiled.table.slots free (pieces_are coded units known.units))) in
-    let many : length left ≡ length (sets_of coded pid (only page) false packets) =
-    each_count (set_call (profile_of name) anchor) [] (reverse given.past) ∙ length-reverse given.past
-    ∙ as_many_received (profile_of name) pid (only page) false packets given.past given.received in
-    let used : AreUsedUp coded pid (only page) [] packets (length left) =
-    used_up coded pid (only page) [] packets (length left) sound
-    (omega (arith, many, ap length (none_yet coded pid (only page) false))) in
+    let sound : AllByRecursion (λ packet. packet_fault compiling.pid packet ≡ None) packets =
+    all_take (λ packet. packet_fault compiling.pid packet ≡ None) m
+    (entered_at missed (packets_in compiling bytes compiled))
+    (all_drop (λ packet. packet_fault compiling.pid packet ≡ None) missed (packets_in compiling bytes compiled)
+    (none_refused compiling.pid 0 0 (all_pieces units) compiled.table.slots free (pieces_are coded units known.units)))
+    in
+    let many : length left ≡ length (sets_of coded compiling.pid (only compiling.page) false packets) =
+    each_count (set_call (profile_of compiling.profile) anchor) [] (reverse given.past) ∙ length-reverse given.past
+    ∙ as_many_received (received_by compiling anchor) false packets given.past given.received in
+    let used : AreUsedUp coded compiling.pid (only compiling.page) [] packets (length left) =
+    used_up coded compiling.pid (only compiling.page) [] packets (length left) sound
+    (omega (arith, many, ap length (none_yet coded compiling.pid (only compiling.page) false))) in
     given.are
-    ∙ ap (λ taken. reverse (calls_from itself coded pid (only page) missed [] taken left))
-    (all_taken pid packets sound)
-    ∙ late_calls coded pid (only page) compiled.loads compiled.table.slots compiled.units known.sent painted missed m
+    ∙ ap (λ taken. reverse (calls_from itself coded compiling.pid (only compiling.page) missed [] taken left))
+    (all_taken compiling.pid packets sound)
+    ∙ late_calls coded compiling.pid (only compiling.page) compiled.loads compiled.table.slots compiled.units known.sent
+    painted missed m
     left free is kept within used

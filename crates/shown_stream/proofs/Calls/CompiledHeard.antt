@@ -8,8 +8,6 @@ use Rattle.std.proofs.lemmas.Bool.Decides.{nat_tests}
 use Rattle.std.proofs.lemmas.List.{length-map, length-reverse, length-replicate, drop_all, length-take, get_or-take, drop-take}
 use Rattle.sub_base.specs.Profile.{profile_of}
 use Rattle.sub_base.specs.declared.load.WriteLoad.{WriteLoad}
-use Rattle.sub_base.specs.declared.profile.ProfileName.{ProfileName}
-use Rattle.cue_list.specs.declared.script.Script.{Script}
 use Rattle.buffer_model.specs.Calls.{Call}
 use Rattle.stream_syntax.specs.TransportPackets.{null_packet}
 use Rattle.schedule.specs.Packets.{sum_below, load_of, size_of, packets_of, payload_of, first_packet}
@@ -22,7 +20,7 @@ use Rattle.decoder_model.specs.Streams.{entered_at}
 use Rattle.scheduled_level_laws.specs.EnteredCalls.{Entry, from_of, entered_calls}
 use Rattle.scheduled_level_laws.proofs.EnteredDone.{same_bound}
 use Rattle.scheduled_level_laws.proofs.EnteredSums.{within_slots}
-use Rattle.shown_stream.specs.Compiled.{IsCompiledTo, all_units}
+use Rattle.shown_stream.specs.Compiled.{IsCompiledTo, all_units, Compiling, received_by}
 use Rattle.shown_stream.specs.SentSets.{sent_sets, first_times_from}
 use Rattle.shown_stream.specs.Shows.{IsAnchorOf}
 use Rattle.slot_stream.specs.SlotStream.{Piece, all_pieces, packet_of}
@@ -61,35 +59,35 @@ many_read (delivery ∷ deliveries) [] h = absurd h
 many_read (delivery ∷ deliveries) (one ∷ past) h = ap suc (many_read deliveries past h.1)
 
 -- up to any packet the calls of sets are those of the scheduled sets from the entry on
-pub compiled_left : (name : ProfileName) (pid page : ℕ) (script : Script) (bytes : List ℕ) → IsFree pid
-    → (compiled : IsCompiledTo name pid page script bytes) (known : ArePackets name pid page script bytes compiled)
+pub compiled_left : (compiling : Compiling) (bytes : List ℕ) → IsFree compiling.pid
+    → (compiled : IsCompiledTo compiling bytes) (known : ArePackets compiling bytes compiled)
     (loads_are : All IsLoad compiled.loads)
     → (anchor missed m : ℕ) → IsAnchorOf (first_times_from missed (sent_sets compiled.table compiled.sets)) anchor
-    → (late : IsEnteredLate name pid page script bytes compiled known.sent missed)
+    → (late : IsEnteredLate compiling bytes compiled known.sent missed)
     → (past : List (Delivery Reading))
-    → HasReceived (profile_of name) pid (only page) false
-    (take m (entered_at missed (packets_in name pid page script bytes compiled))) past
+    → HasReceived (received_by compiling anchor) false
+    (take m (entered_at missed (packets_in compiling bytes compiled))) past
     → AreLeft compiled.loads (heard_painting compiled.loads late.first)
-    (compiled_entry name pid page script bytes compiled known loads_are missed)
-    (compiled_entry name pid page script bytes compiled known loads_are missed).set
-    (set_calls (profile_of name) anchor (reverse past))
-compiled_left name pid page script bytes free compiled known loads_are anchor missed m suits late past received =
+    (compiled_entry compiling bytes compiled known loads_are missed)
+    (compiled_entry compiling bytes compiled known loads_are missed).set
+    (set_calls (profile_of compiling.profile) anchor (reverse past))
+compiled_left compiling bytes free compiled known loads_are anchor missed m suits late past received =
     are_left compiled.loads (heard_painting compiled.loads late.first) entry
-    (set_calls (profile_of name) anchor (reverse past)) whole painted
+    (set_calls (profile_of compiling.profile) anchor (reverse past)) whole painted
   where
     entry : Entry
-    entry = compiled_entry name pid page script bytes compiled known loads_are missed
+    entry = compiled_entry compiling bytes compiled known loads_are missed
 
     behind : List TimedSet
-    behind = sets_behind (cut_units name pid page script bytes compiled known loads_are missed) known.sent
+    behind = sets_behind (cut_units compiling bytes compiled known loads_are missed) known.sent
 
-    some : AreWholeUpTo (profile_of name) anchor (drop entry.set compiled.sets) behind past
-    some = compiled_kept name pid page script bytes free compiled known loads_are anchor missed m suits past received
+    some : AreWholeUpTo (profile_of compiling.profile) anchor (drop entry.set compiled.sets) behind past
+    some = compiled_kept compiling bytes free compiled known loads_are anchor missed m suits past received
 
-    all : AreAllHeard name pid page script bytes compiled known loads_are missed anchor late.first
-    all = all_heard name pid page script bytes free compiled known loads_are missed anchor suits late
+    all : AreAllHeard compiling bytes compiled known loads_are missed anchor late.first
+    all = all_heard compiling bytes free compiled known loads_are missed anchor suits late
 
-    few : (j : ℕ) → j < length (set_calls (profile_of name) anchor (reverse past)) → (j < length past)
+    few : (j : ℕ) → j < length (set_calls (profile_of compiling.profile) anchor (reverse past)) → (j < length past)
         × (j < some.count) × (j < length behind)
     few j inside =
         let many = many_read (map delivered (take some.count behind)) (reverse past) some.read in
@@ -97,13 +95,19 @@ compiled_left name pid page script bytes free compiled known loads_are anchor mi
         omega (
           arith,
           inside,
-          count_calls (profile_of name) anchor [] (reverse past),
+          count_calls (profile_of compiling.profile) anchor [] (reverse past),
           many,
           length-map
               (take some.count behind) delivered,
           length-take some.count behind,
         ) in (
-          omega (arith, inside, count_calls (profile_of name) anchor [] (reverse past), length-reverse past),
+          omega (
+            arith,
+            inside,
+            count_calls (profile_of compiling.profile) anchor [] (reverse past),
+            length-reverse
+                past,
+          ),
           omega
               (arith, bound),
           omega (arith, bound),
@@ -112,49 +116,53 @@ compiled_left name pid page script bytes free compiled known loads_are anchor mi
     sizes : List TimedSet → List ℕ
     sizes sets = map (λ (one : TimedSet). size_of_units one.units) sets
 
-    whole : (j : ℕ) → j < length (set_calls (profile_of name) anchor (reverse past))
-        → IsWholeAt (set_calls (profile_of name) anchor (reverse past)) j (load_of compiled.loads (entry.set + j)).pts
+    whole : (j : ℕ) → j < length (set_calls (profile_of compiling.profile) anchor (reverse past))
+        → IsWholeAt (set_calls (profile_of compiling.profile) anchor (reverse past)) j
+        (load_of compiled.loads (entry.set + j)).pts
         (size_of compiled.loads (entry.set + j) - sum_below (payload_of compiled.loads (entry.set + j))
         (from_of entry (entry.set + j)))
     whole j inside =
         let bounds = few j inside in
         let found = some.each j bounds.0 in
-        let sent = (compiled_stream name pid page script bytes compiled known loads_are).sent in
-        let n = cut_units name pid page script bytes compiled known loads_are missed in
+        let sent = (compiled_stream compiling bytes compiled known loads_are).sent in
+        let n = cut_units compiling bytes compiled known loads_are missed in
         let place : entry.set + j < length compiled.sets =
         omega (
           arith,
           bounds.2,
-          count_behind (profile_of name).coded (only page) compiled.loads n 0 compiled.units
+          count_behind (profile_of compiling.profile).coded (only compiling.page) compiled.loads n 0 compiled.units
               known.sent sent,
-          (count_sets script page compiled.sets compiled.units known.sent known.are.are).0,
+          (count_sets compiling.script compiling.page compiled.sets compiled.units known.sent known.are.are).0,
         ) in
         record {
           load = found.load;
           is = found.is;
           at =
               found.at ∙ drop_times entry.set compiled.sets j
-              ∙ planned_times script compiled.sets compiled.loads compiled.planned.asked (entry.set + j) place;
+              ∙ planned_times compiling.script compiled.sets compiled.loads compiled.planned.asked (entry.set + j)
+              place;
           many =
               found.many
               ∙ ap (λ found_sizes. get_or found_sizes j 0)
               (sym (take-map (λ (one : TimedSet). size_of_units one.units) some.count behind))
               ∙ get_or-take some.count (sizes behind) j 0 bounds.1
-              ∙ heard_sizes (profile_of name).coded (only page) compiled.loads n 0 compiled.units known.sent sent j
+              ∙ heard_sizes (profile_of compiling.profile).coded (only compiling.page) compiled.loads n 0 compiled.units
+              known.sent sent j
               bounds.2;
         }
 
-    painted : (j : ℕ) → j < length (set_calls (profile_of name) anchor (reverse past))
-        → painting_in (get_or (set_calls (profile_of name) anchor (reverse past)) j [])
+    painted : (j : ℕ) → j < length (set_calls (profile_of compiling.profile) anchor (reverse past))
+        → painting_in (get_or (set_calls (profile_of compiling.profile) anchor (reverse past)) j [])
         ≡ heard_painting compiled.loads late.first (entry.set + j)
     painted j inside =
         let bounds = few j inside in
-        ap (λ found. painting_in (get_or (set_calls (profile_of name) anchor found) j []))
-        (first_of_all name pid page script bytes compiled known loads_are missed anchor late.first
+        ap (λ found. painting_in (get_or (set_calls (profile_of compiling.profile) anchor found) j []))
+        (first_of_all compiling bytes compiled known loads_are missed anchor late.first
         (drop entry.set compiled.sets) past all some)
         ∙ ap (λ found. painting_in (get_or found j []))
-        (calls_of_first (profile_of name) anchor some.count [] all.received)
-        ∙ ap painting_in (get_or-take some.count (set_calls (profile_of name) anchor all.received) j [] bounds.1)
+        (calls_of_first (profile_of compiling.profile) anchor some.count [] all.received)
+        ∙ ap painting_in
+        (get_or-take some.count (set_calls (profile_of compiling.profile) anchor all.received) j [] bounds.1)
         ∙ all.painted j
         (omega (
           arith,
@@ -165,51 +173,54 @@ compiled_left name pid page script bytes free compiled known loads_are anchor mi
         ))
 
 -- and what is received so far can be read
-pub compiled_read : (name : ProfileName) (pid page : ℕ) (script : Script) (bytes : List ℕ) → IsFree pid
-    → (compiled : IsCompiledTo name pid page script bytes) (known : ArePackets name pid page script bytes compiled)
+pub compiled_read : (compiling : Compiling) (bytes : List ℕ) → IsFree compiling.pid
+    → (compiled : IsCompiledTo compiling bytes) (known : ArePackets compiling bytes compiled)
     (loads_are : All IsLoad compiled.loads)
     → (anchor missed m : ℕ) → IsAnchorOf (first_times_from missed (sent_sets compiled.table compiled.sets)) anchor
-    → (late : IsEnteredLate name pid page script bytes compiled known.sent missed)
+    → (late : IsEnteredLate compiling bytes compiled known.sent missed)
     → (past : List (Delivery Reading))
-    × HasReceived (profile_of name) pid (only page) false
-    (take m (entered_at missed (packets_in name pid page script bytes compiled))) past
-compiled_read name pid page script bytes free compiled known loads_are anchor missed m suits late =
-    let coded = (profile_of name).coded in
-    let is = compiled_stream name pid page script bytes compiled known loads_are in
-    let n = cut_units name pid page script bytes compiled known loads_are missed in
-    let all = all_heard name pid page script bytes free compiled known loads_are missed anchor suits late in
+    × HasReceived (received_by compiling anchor) false
+    (take m (entered_at missed (packets_in compiling bytes compiled))) past
+compiled_read compiling bytes free compiled known loads_are anchor missed m suits late =
+    let coded = (profile_of compiling.profile).coded in
+    let is = compiled_stream compiling bytes compiled known loads_are in
+    let n = cut_units compiling bytes compiled known loads_are missed in
+    let all = all_heard compiling bytes free compiled known loads_are missed anchor suits late in
     let up_to =
-    sets_up_to coded pid (only page) missed m (all_units compiled.units) known.sent compiled.table.slots free
+    sets_up_to coded compiling.pid (only compiling.page) missed m (all_units compiled.units) known.sent
+    compiled.table.slots free
     is.whole known.are.carry known.apart is.pieces is.ahead in (
       reverse (take up_to.0 all.received),
       read_turned
-          (sets_of coded pid (only page) false
-          (take m (entered_at missed (packets_in name pid page script bytes compiled)))) (take up_to.0 all.received)
+          (sets_of coded compiling.pid (only compiling.page) false
+          (take m (entered_at missed (packets_in compiling bytes compiled)))) (take up_to.0 all.received)
           (subst (λ (found : List (Delivery (List ℕ))). AreDeliveriesRead found (take up_to.0 all.received))
           (take-map delivered up_to.0 (sets_behind n known.sent) ∙ sym up_to.1)
           (read_first up_to.0 (map delivered (sets_behind n known.sent)) all.received all.read)),
     )
 
 -- the end of the stream makes no set ready
-pub ended_sets : (name : ProfileName) (pid page : ℕ) (script : Script) (bytes : List ℕ) → IsFree pid
-    → (compiled : IsCompiledTo name pid page script bytes) (known : ArePackets name pid page script bytes compiled)
+pub ended_sets : (compiling : Compiling) (bytes : List ℕ) → IsFree compiling.pid
+    → (compiled : IsCompiledTo compiling bytes) (known : ArePackets compiling bytes compiled)
     → All IsLoad compiled.loads
     → (missed : ℕ)
-    → sets_of (profile_of name).coded pid (only page) true
-    (entered_at missed (packets_in name pid page script bytes compiled))
-    ≡ sets_of (profile_of name).coded pid (only page) false
-    (entered_at missed (packets_in name pid page script bytes compiled))
-ended_sets name pid page script bytes free compiled known loads_are missed =
-    let coded = (profile_of name).coded in
-    let is = compiled_stream name pid page script bytes compiled known loads_are in
-    let packets = entered_at missed (packets_in name pid page script bytes compiled) in
+    → sets_of (profile_of compiling.profile).coded compiling.pid (only compiling.page) true
+    (entered_at missed (packets_in compiling bytes compiled))
+    ≡ sets_of (profile_of compiling.profile).coded compiling.pid (only compiling.page) false
+    (entered_at missed (packets_in compiling bytes compiled))
+ended_sets compiling bytes free compiled known loads_are missed =
+    let coded = (profile_of compiling.profile).coded in
+    let is = compiled_stream compiling bytes compiled known loads_are in
+    let packets = entered_at missed (packets_in compiling bytes compiled) in
     let units = all_units compiled.units in
-    let n = cut_units name pid page script bytes compiled known loads_are missed in
-    let come = entered_late pid coded missed units compiled.table.slots free is.whole is.pieces is.ahead in
-    let are = units_behind coded (only page) n units known.sent known.are.carry in
+    let n = cut_units compiling bytes compiled known loads_are missed in
+    let come = entered_late compiling.pid coded missed units compiled.table.slots free is.whole is.pieces is.ahead in
+    let are = units_behind coded (only compiling.page) n units known.sent known.are.carry in
     let apart = apart_behind n known.sent known.apart in
-    sets_come_whole coded pid (only page) true packets (drop n units) (sets_behind n known.sent) come are apart
-    ∙ sym (sets_come_whole coded pid (only page) false packets (drop n units) (sets_behind n known.sent) come are
+    sets_come_whole coded compiling.pid (only compiling.page) true packets (drop n units) (sets_behind n known.sent)
+    come are apart
+    ∙ sym (sets_come_whole coded compiling.pid (only compiling.page) false packets (drop n units)
+    (sets_behind n known.sent) come are
     apart)
 
 -- ---- before any slot
@@ -241,16 +252,16 @@ laid_inside pid from number (suc k) (piece ∷ pieces) (slot ∷ slots) ahead sa
           (slot - from) null_packet,
     )
 
-pub packet_inside : (name : ProfileName) (pid page : ℕ) (script : Script) (bytes : List ℕ)
-    (compiled : IsCompiledTo name pid page script bytes) (known : ArePackets name pid page script bytes compiled)
+pub packet_inside : (compiling : Compiling) (bytes : List ℕ)
+    (compiled : IsCompiledTo compiling bytes) (known : ArePackets compiling bytes compiled)
     → All IsLoad compiled.loads → (i k : ℕ) → i < length compiled.loads
     → k < packets_of compiled.loads i
-    → slot_of compiled.loads compiled.table.slots i k < length (packets_in name pid page script bytes compiled)
-packet_inside name pid page script bytes compiled known loads_are i k inside within =
-    let is = compiled_stream name pid page script bytes compiled known loads_are in
+    → slot_of compiled.loads compiled.table.slots i k < length (packets_in compiling bytes compiled)
+packet_inside compiling bytes compiled known loads_are i k inside within =
+    let is = compiled_stream compiling bytes compiled known loads_are in
     omega (
       arith,
-      laid_inside pid 0 0 (first_packet compiled.loads i + k) (all_pieces (all_units compiled.units))
+      laid_inside compiling.pid 0 0 (first_packet compiled.loads i + k) (all_pieces (all_units compiled.units))
           compiled.table.slots is.ahead is.pieces
           (within_slots compiled.loads compiled.table.slots i k is.are inside within),
     )
@@ -279,27 +290,27 @@ before_slot missed slot packets = elim (cases_lt slot missed) [
     ]
 
 -- the calls before a slot
-pub heard_calls : (name : ProfileName) (pid page : ℕ) (script : Script) (bytes : List ℕ) → IsFree pid
-    → (compiled : IsCompiledTo name pid page script bytes) (known : ArePackets name pid page script bytes compiled)
+pub heard_calls : (compiling : Compiling) (bytes : List ℕ) → IsFree compiling.pid
+    → (compiled : IsCompiledTo compiling bytes) (known : ArePackets compiling bytes compiled)
     (loads_are : All IsLoad compiled.loads)
     → (anchor missed slot : ℕ) → IsAnchorOf (first_times_from missed (sent_sets compiled.table compiled.sets)) anchor
-    → (late : IsEnteredLate name pid page script bytes compiled known.sent missed) → (calls : List Call)
-    → AreCallsBefore slot name pid (only page) anchor missed (packets_in name pid page script bytes compiled) calls
+    → (late : IsEnteredLate compiling bytes compiled known.sent missed) → (calls : List Call)
+    → AreCallsBefore slot (received_by compiling anchor) missed (packets_in compiling bytes compiled) calls
     → calls ≡ entered_calls compiled.loads compiled.table.slots slot (heard_painting compiled.loads late.first)
-    (compiled_entry name pid page script bytes compiled known loads_are missed) (length compiled.loads)
-heard_calls name pid page script bytes free compiled known loads_are anchor missed slot suits late calls given =
-    compiled_calls name pid page script bytes free compiled known loads_are painted anchor missed m calls (omega arith)
-    some (compiled_left name pid page script bytes free compiled known loads_are anchor missed m suits late
+    (compiled_entry compiling bytes compiled known loads_are missed) (length compiled.loads)
+heard_calls compiling bytes free compiled known loads_are anchor missed slot suits late calls given =
+    compiled_calls compiling bytes free compiled known loads_are painted anchor missed m calls (omega arith)
+    some (compiled_left compiling bytes free compiled known loads_are anchor missed m suits late
     some.past some.received) ∙ moved
   where
     packets : List (List ℕ)
-    packets = packets_in name pid page script bytes compiled
+    packets = packets_in compiling bytes compiled
 
     loads : List WriteLoad
     loads = compiled.loads
 
     entry : Entry
-    entry = compiled_entry name pid page script bytes compiled known loads_are missed
+    entry = compiled_entry compiling bytes compiled known loads_are missed
 
     painted : ℕ → ℕ
     painted = heard_painting compiled.loads late.first
@@ -307,22 +318,24 @@ heard_calls name pid page script bytes free compiled known loads_are anchor miss
     m : ℕ
     m = min (slot - missed) (length (drop missed packets))
 
-    some : AreCallsOf (profile_of name) pid (only page) anchor missed false (take m (entered_at missed packets)) calls
+    some : AreCallsOf (received_by compiling anchor) missed false (take m (entered_at missed packets)) calls
     some =
-        subst (λ (found : List (List ℕ)). AreCallsOf (profile_of name) pid (only page) anchor missed false found
+        subst (λ (found : List (List ℕ)). AreCallsOf (received_by compiling anchor) missed false found
         calls) (before_slot missed slot packets) given
 
-    is : IsSentStream (profile_of name).coded (only page) loads compiled.table.slots compiled.units known.sent
-    is = compiled_stream name pid page script bytes compiled known loads_are
+    is : IsSentStream (profile_of compiling.profile).coded (only compiling.page) loads compiled.table.slots
+        compiled.units known.sent
+    is = compiled_stream compiling bytes compiled known loads_are
 
     not_begun : IsNotBegun loads compiled.table.slots entry missed
     not_begun =
-        entry_not_begun (profile_of name).coded (only page) loads compiled.table.slots compiled.units known.sent missed
+        entry_not_begun (profile_of compiling.profile).coded (only compiling.page) loads compiled.table.slots
+        compiled.units known.sent missed
         is
 
     inside : (i k : ℕ) → i < length loads → k < packets_of loads i
         → slot_of loads compiled.table.slots i k < length packets
-    inside i k within part = packet_inside name pid page script bytes compiled known loads_are i k within part
+    inside i k within part = packet_inside compiling bytes compiled known loads_are i k within part
 
     moved : entered_calls loads compiled.table.slots (missed + m) painted entry (length loads)
         ≡ entered_calls loads compiled.table.slots slot painted entry (length loads)

@@ -7,7 +7,6 @@ use Rattle.std.proofs.lemmas.List.{reverse-append, length-reverse}
 use Rattle.std.proofs.lemmas.List.{reverse-reverse}
 use Rattle.sub_base.specs.Profile.{profile_of}
 use Rattle.sub_base.specs.declared.profile.Profile.{Profile}
-use Rattle.sub_base.specs.declared.profile.ProfileName.{ProfileName}
 use Rattle.cue_list.specs.declared.script.Script.{Script}
 use Rattle.page_epoch.specs.declared.planned_set.PlannedSet.{PlannedSet}
 use Rattle.schedule.specs.Slots.{IsLoad}
@@ -17,7 +16,7 @@ use Rattle.decoder_model.specs.Readings.{Reading, IsDeliveryRead, AreDeliveriesR
 use Rattle.decoder_model.specs.Received.{HasReceived}
 use Rattle.decoder_model.specs.Sets.{Delivery, sets_of}
 use Rattle.decoder_model.specs.Streams.{entered_at}
-use Rattle.shown_stream.specs.Compiled.{IsCompiledTo, all_units}
+use Rattle.shown_stream.specs.Compiled.{IsCompiledTo, all_units, Compiling, received_by}
 use Rattle.shown_stream.specs.SentSets.{sent_sets, first_times_from}
 use Rattle.shown_stream.specs.Shows.{IsAnchorOf}
 use Rattle.received_level_laws.specs.StreamCalls.{set_calls}
@@ -82,26 +81,27 @@ pub record AreWholeUpTo (profile : Profile) (anchor : ℕ) (planned : List Plann
       (get_or (map (λ (one : TimedSet). size_of_units one.units) (take count behind)) j 0)
 
 -- up to any packet, by every anchor that suits
-pub compiled_kept : (name : ProfileName) (pid page : ℕ) (script : Script) (bytes : List ℕ) → IsFree pid
-    → (compiled : IsCompiledTo name pid page script bytes) (known : ArePackets name pid page script bytes compiled)
+pub compiled_kept : (compiling : Compiling) (bytes : List ℕ) → IsFree compiling.pid
+    → (compiled : IsCompiledTo compiling bytes) (known : ArePackets compiling bytes compiled)
     (loads_are : All IsLoad compiled.loads)
     → (anchor missed m : ℕ) → IsAnchorOf (first_times_from missed (sent_sets compiled.table compiled.sets)) anchor
     → (past : List (Delivery Reading))
-    → HasReceived (profile_of name) pid (only page) false
-    (take m (entered_at missed (packets_in name pid page script bytes compiled))) past
-    → AreWholeUpTo (profile_of name) anchor
-    (drop (compiled_entry name pid page script bytes compiled known loads_are missed).set compiled.sets)
-    (sets_behind (cut_units name pid page script bytes compiled known loads_are missed) known.sent) past
-compiled_kept name pid page script bytes free compiled known loads_are anchor missed m suits past received =
-    let coded = (profile_of name).coded in
-    let is = compiled_stream name pid page script bytes compiled known loads_are in
-    let entry = compiled_entry name pid page script bytes compiled known loads_are missed in
-    let n = cut_units name pid page script bytes compiled known loads_are missed in
+    → HasReceived (received_by compiling anchor) false
+    (take m (entered_at missed (packets_in compiling bytes compiled))) past
+    → AreWholeUpTo (profile_of compiling.profile) anchor
+    (drop (compiled_entry compiling bytes compiled known loads_are missed).set compiled.sets)
+    (sets_behind (cut_units compiling bytes compiled known loads_are missed) known.sent) past
+compiled_kept compiling bytes free compiled known loads_are anchor missed m suits past received =
+    let coded = (profile_of compiling.profile).coded in
+    let is = compiled_stream compiling bytes compiled known loads_are in
+    let entry = compiled_entry compiling bytes compiled known loads_are missed in
+    let n = cut_units compiling bytes compiled known loads_are missed in
     let up_to =
-    sets_up_to coded pid (only page) missed m (all_units compiled.units) known.sent compiled.table.slots free
+    sets_up_to coded compiling.pid (only compiling.page) missed m (all_units compiled.units) known.sent
+    compiled.table.slots free
     is.whole known.are.carry known.apart is.pieces is.ahead in
     let sets = take up_to.0 (sets_behind n known.sent) in
-    let own = have_units script page compiled.sets compiled.units known.sent known.are.are in
+    let own = have_units compiling.script compiling.page compiled.sets compiled.units known.sent known.are.are in
     let whole : entry.set - 0 ≡ entry.set = omega arith in
     let are_timed : AreTimed (drop entry.set compiled.sets) sets =
     subst (λ (k : ℕ). AreTimed (drop k compiled.sets) sets) whole
@@ -109,19 +109,20 @@ compiled_kept name pid page script bytes free compiled known loads_are anchor mi
     (timed_from n 0 compiled.units compiled.sets known.sent own.0 own.1)) in
     let turned =
     read_turned
-    (reverse (sets_of coded pid (only page) false
-    (take m (entered_at missed (packets_in name pid page script bytes compiled))))) past received in
+    (reverse (sets_of coded compiling.pid (only compiling.page) false
+    (take m (entered_at missed (packets_in compiling bytes compiled))))) past received in
     let read : AreDeliveriesRead (map delivered sets) (reverse past) =
     subst (λ (found : List (Delivery (List ℕ))). AreDeliveriesRead found (reverse past))
     (reverse-reverse
-    (sets_of coded pid (only page) false
-    (take m (entered_at missed (packets_in name pid page script bytes compiled)))) ∙ up_to.1) turned in
+    (sets_of coded compiling.pid (only compiling.page) false
+    (take m (entered_at missed (packets_in compiling bytes compiled)))) ∙ up_to.1) turned in
     record {
       count = up_to.0;
       read = read;
       each =
-          λ j inside. each_kept (profile_of name) anchor None [] (drop entry.set compiled.sets) sets (reverse past)
+          λ j inside. each_kept (profile_of compiling.profile) anchor None [] (drop entry.set compiled.sets) sets
+          (reverse past)
           (none_before anchor)
-          (compiled_ahead name pid page script bytes free compiled known loads_are missed anchor suits) are_timed read j
+          (compiled_ahead compiling bytes free compiled known loads_are missed anchor suits) are_timed read j
           (omega (arith, inside, length-reverse past));
     }

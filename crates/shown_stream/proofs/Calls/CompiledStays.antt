@@ -13,8 +13,6 @@ use Rattle.sub_base.specs.Pace.{pace_of}
 use Rattle.sub_base.specs.Profile.{profile_of}
 use Rattle.sub_base.specs.declared.load.WriteLoad.{WriteLoad}
 use Rattle.sub_base.specs.declared.pace.Pace.{Pace}
-use Rattle.sub_base.specs.declared.profile.ProfileName.{ProfileName}
-use Rattle.cue_list.specs.declared.script.Script.{Script}
 use Rattle.page_epoch.specs.declared.planned_set.PlannedSet.{PlannedSet}
 use Rattle.buffer_model.specs.Calls.{Call, level_at}
 use Rattle.buffer_model.specs.Within.{AreWithin}
@@ -33,7 +31,7 @@ use Rattle.scheduled_level_laws.proofs.EnteredLevels.{IsEntry}
 use Rattle.scheduled_level_laws.proofs.EnteredSums.{last_packet}
 use Rattle.scheduled_level_laws.proofs.EnteredWithin.{Holds, no_higher, level_within, entered_within}
 use Rattle.scheduled_level_laws.proofs.WholeLevels.{one_level}
-use Rattle.shown_stream.specs.Compiled.{all_units, IsCompiledTo}
+use Rattle.shown_stream.specs.Compiled.{all_units, IsCompiledTo, Compiling, received_by}
 use Rattle.shown_stream.specs.SentSets.{sent_set, sent_sets, first_times_from}
 use Rattle.shown_stream.specs.Shows.{IsAnchorOf}
 use Rattle.shown_stream.specs.StaysWithin.{AreCallsBefore, IsKeptCall, StaysWithin, IsAsScheduled}
@@ -50,6 +48,7 @@ use Rattle.shown_stream.proofs.Late.LateCompiled.{IsEnteredLate, compiled_late}
 use Rattle.shown_stream.proofs.Late.LatePlaces.{count_sets}
 use Rattle.shown_stream.proofs.Sent.PlannedTimes.{pts_of}
 use Rattle.shown_stream.proofs.Calls.ReceivedLoads.{heard_painting, heard_from, heard_most, planned_times}
+use Rattle.shown_stream.specs.SentPlan.{sent_plan}
 use Rattle.slot_stream.proofs.SentPieces.{IsFree}
 use Rattle.sent_sets.proofs.LateStream.{passed, pieces_left}
 use Rattle.sent_sets.proofs.PacketCounts.{as_many}
@@ -80,15 +79,15 @@ first_of [] some = absurd (omega arith)
 first_of (set ∷ sets) some = set
 
 -- where no packet is missed, the stream is entered at its first packet
-whole_entered : (name : ProfileName) (pid page : ℕ) (script : Script) (bytes : List ℕ)
-    (compiled : IsCompiledTo name pid page script bytes) (known : ArePackets name pid page script bytes compiled)
+whole_entered : (compiling : Compiling) (bytes : List ℕ)
+    (compiled : IsCompiledTo compiling bytes) (known : ArePackets compiling bytes compiled)
     (loads_are : All IsLoad compiled.loads)
-    → compiled_entry name pid page script bytes compiled known loads_are 0 ≡ whole_entry
-whole_entered name pid page script bytes compiled known loads_are =
-    let coded = (profile_of name).coded in
-    let is = compiled_stream name pid page script bytes compiled known loads_are in
+    → compiled_entry compiling bytes compiled known loads_are 0 ≡ whole_entry
+whole_entered compiling bytes compiled known loads_are =
+    let coded = (profile_of compiling.profile).coded in
+    let is = compiled_stream compiling bytes compiled known loads_are in
     let units = all_units compiled.units in
-    let none : cut_units name pid page script bytes compiled known loads_are 0 ≡ 0 =
+    let none : cut_units compiling bytes compiled known loads_are 0 ≡ 0 =
     (pieces_left coded (passed (0 + 0) compiled.table.slots) units is.whole).none (none_passed compiled.table.slots)
     in
     ap (λ n. entry_behind n 0 compiled.units) none
@@ -97,17 +96,17 @@ whole_entered name pid page script bytes compiled known loads_are =
     compiled.sized)
 
 -- and no set is cut
-none_cut : (name : ProfileName) (pid page : ℕ) (script : Script) (bytes : List ℕ)
-    (compiled : IsCompiledTo name pid page script bytes) (known : ArePackets name pid page script bytes compiled)
-    → (late : IsEnteredLate name pid page script bytes compiled known.sent 0) → late.first ≡ 0
-none_cut name pid page script bytes compiled known late = elim (cases_lt 0 late.first) [
+none_cut : (compiling : Compiling) (bytes : List ℕ)
+    (compiled : IsCompiledTo compiling bytes) (known : ArePackets compiling bytes compiled)
+    → (late : IsEnteredLate compiling bytes compiled known.sent 0) → late.first ≡ 0
+none_cut compiling bytes compiled known late = elim (cases_lt 0 late.first) [
   | inl some ↦
       let many : 0 < length compiled.sets =
       omega (
         arith,
         some,
         late.few,
-        (count_sets script page compiled.sets compiled.units known.sent
+        (count_sets compiling.script compiling.page compiled.sets compiled.units known.sent
             known.are.are).0,
       ) in
       let cut = (late.whole 0 (first_of compiled.sets many) many).0 some in
@@ -116,53 +115,53 @@ none_cut name pid page script bytes compiled known late = elim (cases_lt 0 late.
 ]
 
 -- the calls of the whole stream are those of the schedule
-whole_calls : (name : ProfileName) (pid page : ℕ) (script : Script) (bytes : List ℕ) → IsFree pid
-    → (compiled : IsCompiledTo name pid page script bytes) (known : ArePackets name pid page script bytes compiled)
+whole_calls : (compiling : Compiling) (bytes : List ℕ) → IsFree compiling.pid
+    → (compiled : IsCompiledTo compiling bytes) (known : ArePackets compiling bytes compiled)
     (loads_are : All IsLoad compiled.loads)
     → (anchor slot : ℕ) → IsAnchorOf (first_times_from 0 (sent_sets compiled.table compiled.sets)) anchor
     → (calls : List Call)
-    → AreCallsBefore slot name pid (only page) anchor 0 (packets_in name pid page script bytes compiled) calls
+    → AreCallsBefore slot (received_by compiling anchor) 0 (packets_in compiling bytes compiled) calls
     → calls ≡ entered_calls compiled.loads compiled.table.slots slot (planned_painting compiled.loads) whole_entry
     (length compiled.loads)
-whole_calls name pid page script bytes free compiled known loads_are anchor slot suits calls given =
+whole_calls compiling bytes free compiled known loads_are anchor slot suits calls given =
     let loads = compiled.loads in
-    let late = compiled_late name pid page script bytes free compiled known 0 in
-    let none = none_cut name pid page script bytes compiled known late in
+    let late = compiled_late compiling bytes free compiled known 0 in
+    let none = none_cut compiling bytes compiled known late in
     let painted : heard_painting loads late.first ≡ planned_painting loads =
     (λ k i. heard_from loads late.first i (omega (arith, none)) k) in
-    heard_calls name pid page script bytes free compiled known loads_are anchor 0 slot suits late calls given
+    heard_calls compiling bytes free compiled known loads_are anchor 0 slot suits late calls given
     ∙ ap (λ paintings. entered_calls loads compiled.table.slots slot paintings
-    (compiled_entry name pid page script bytes compiled known loads_are 0) (length loads)) painted
+    (compiled_entry compiling bytes compiled known loads_are 0) (length loads)) painted
     ∙ ap (λ entry. entered_calls loads compiled.table.slots slot (planned_painting loads) entry (length loads))
-    (whole_entered name pid page script bytes compiled known loads_are)
+    (whole_entered compiling bytes compiled known loads_are)
 
 -- the slot behind a slot
 next_slot : (slot : ℕ) → slot + 1 ≡ suc slot
 next_slot slot = omega arith
 
 -- each set is whole by the end of the stream
-all_whole : (name : ProfileName) (pid page : ℕ) (script : Script) (bytes : List ℕ)
-    (compiled : IsCompiledTo name pid page script bytes) (known : ArePackets name pid page script bytes compiled)
+all_whole : (compiling : Compiling) (bytes : List ℕ)
+    (compiled : IsCompiledTo compiling bytes) (known : ArePackets compiling bytes compiled)
     → All IsLoad compiled.loads → (i : ℕ) → i < length compiled.loads
-    → is_whole compiled.loads compiled.table.slots (length (packets_in name pid page script bytes compiled)) i
+    → is_whole compiled.loads compiled.table.slots (length (packets_in compiling bytes compiled)) i
     ≡ true
-all_whole name pid page script bytes compiled known loads_are i inside =
+all_whole compiling bytes compiled known loads_are i inside =
     let last =
     last_packet compiled.loads compiled.table.slots i
-    (compiled_stream name pid page script bytes compiled known loads_are).are inside in
+    (compiled_stream compiling bytes compiled known loads_are).are inside in
     let before =
-    packet_inside name pid page script bytes compiled known loads_are i (packets_of compiled.loads i - 1) inside
+    packet_inside compiling bytes compiled known loads_are i (packets_of compiled.loads i - 1) inside
     last in
     grind (arith, nat_tests)
 
 -- its levels and done ticks are those of the schedule
-pub compiled_scheduled : (name : ProfileName) (pid page : ℕ) (script : Script) (bytes : List ℕ) → IsFree pid
-    → (compiled : IsCompiledTo name pid page script bytes) (known : ArePackets name pid page script bytes compiled)
+pub compiled_scheduled : (compiling : Compiling) (bytes : List ℕ) → IsFree compiling.pid
+    → (compiled : IsCompiledTo compiling bytes) (known : ArePackets compiling bytes compiled)
     → (anchor : ℕ)
     → IsAnchorOf (first_times_from 0 (sent_sets compiled.table compiled.sets)) anchor
-    → IsAsScheduled name pid (only page) script compiled.sets compiled.loads compiled.table
-    (packets_in name pid page script bytes compiled) anchor
-compiled_scheduled name pid page script bytes free compiled known anchor suits = record {
+    → IsAsScheduled (sent_plan compiling compiled.sets compiled.table) compiled.loads
+    (packets_in compiling bytes compiled) anchor
+compiled_scheduled compiling bytes free compiled known anchor suits = record {
   level =
       λ slot calls given. ap (level_at pace slot 0)
       (are (slot + 1) calls given
@@ -173,7 +172,8 @@ compiled_scheduled name pid page script bytes free compiled known anchor suits =
       (are (length packets) calls given)
       ∙ all_times loads pace compiled.table (length packets) (length loads) (pts_of sets) holds
       (omega (arith, many, length-map sets (λ (set : PlannedSet). set.pts)))
-      (λ i inside. sym (planned_times script sets loads compiled.planned.asked i (omega (arith, inside, many))))
+      (λ i inside. sym
+      (planned_times compiling.script sets loads compiled.planned.asked i (omega (arith, inside, many))))
       (omega arith) whole
       ∙ ap reverse
       (take_all (length loads) (pts_of sets)
@@ -196,26 +196,26 @@ compiled_scheduled name pid page script bytes free compiled known anchor suits =
     sets = compiled.sets
 
     pace : Pace
-    pace = pace_of script.origin (profile_of name)
+    pace = pace_of compiling.script.origin (profile_of compiling.profile)
 
     packets : List (List ℕ)
-    packets = packets_in name pid page script bytes compiled
+    packets = packets_in compiling bytes compiled
 
     many : length loads ≡ length sets
     many =
         as_many loads compiled.units compiled.sized
-        ∙ (count_sets script page sets compiled.units known.sent known.are.are).1
+        ∙ (count_sets compiling.script compiling.page sets compiled.units known.sent known.are.are).1
 
     holds : Holds loads pace compiled.table
-    holds = compiled_holds name pid page script bytes compiled known compiled.each
+    holds = compiled_holds compiling bytes compiled known compiled.each
 
-    are : (slot : ℕ) (calls : List Call) → AreCallsBefore slot name pid (only page) anchor 0 packets calls
+    are : (slot : ℕ) (calls : List Call) → AreCallsBefore slot (received_by compiling anchor) 0 packets calls
         → calls ≡ entered_calls loads compiled.table.slots slot (planned_painting loads) whole_entry (length loads)
     are slot calls given =
-        whole_calls name pid page script bytes free compiled known compiled.each anchor slot suits calls given
+        whole_calls compiling bytes free compiled known compiled.each anchor slot suits calls given
 
     whole : (i : ℕ) → i < length loads → is_whole loads compiled.table.slots (length packets) i ≡ true
-    whole i inside = all_whole name pid page script bytes compiled known compiled.each i inside
+    whole i inside = all_whole compiling bytes compiled known compiled.each i inside
 
 -- ---- a receiver that enters late
 
@@ -225,19 +225,20 @@ time_found [] i set found = absurd (let no : None ≡ Some set = found in cc)
 time_found (first ∷ sets) zero set found = let same : first ≡ set = cc in ap (λ (one : PlannedSet). one.pts) same
 time_found (first ∷ sets) (suc i) set found = time_found sets i set found
 
-pub compiled_stays : (name : ProfileName) (pid page : ℕ) (script : Script) (bytes : List ℕ) → IsFree pid
-    → (compiled : IsCompiledTo name pid page script bytes) (known : ArePackets name pid page script bytes compiled)
+pub compiled_stays : (compiling : Compiling) (bytes : List ℕ) → IsFree compiling.pid
+    → (compiled : IsCompiledTo compiling bytes) (known : ArePackets compiling bytes compiled)
     → (missed anchor : ℕ)
     → IsAnchorOf (first_times_from missed (sent_sets compiled.table compiled.sets)) anchor
-    → StaysWithin name pid (only page) script compiled.sets compiled.table
-    (packets_in name pid page script bytes compiled) missed anchor
-compiled_stays name pid page script bytes free compiled known missed anchor suits = record {
+    → StaysWithin (sent_plan compiling compiled.sets compiled.table)
+    (packets_in compiling bytes compiled) missed anchor
+compiled_stays compiling bytes free compiled known missed anchor suits = record {
   given = given_before;
   within =
       λ slot calls given. subst (AreWithin pace) (sym (heard slot calls given))
       (entered_within loads pace compiled.table slot painted entry (length loads) holds is_entry (omega arith));
   level =
-      λ slot calls given. subst (λ (found : List Call). level_at pace slot 0 found ≤ (profile_of name).coded)
+      λ slot calls given. subst
+      (λ (found : List Call). level_at pace slot 0 found ≤ (profile_of compiling.profile).coded)
       (sym (at_slot slot calls given))
       (omega (
         arith,
@@ -257,16 +258,16 @@ compiled_stays name pid page script bytes free compiled known missed anchor suit
     sets = compiled.sets
 
     pace : Pace
-    pace = pace_of script.origin (profile_of name)
+    pace = pace_of compiling.script.origin (profile_of compiling.profile)
 
     packets : List (List ℕ)
-    packets = packets_in name pid page script bytes compiled
+    packets = packets_in compiling bytes compiled
 
     entry : Entry
-    entry = compiled_entry name pid page script bytes compiled known compiled.each missed
+    entry = compiled_entry compiling bytes compiled known compiled.each missed
 
-    late : IsEnteredLate name pid page script bytes compiled known.sent missed
-    late = compiled_late name pid page script bytes free compiled known missed
+    late : IsEnteredLate compiling bytes compiled known.sent missed
+    late = compiled_late compiling bytes free compiled known missed
 
     painted : ℕ → ℕ
     painted = heard_painting loads late.first
@@ -274,49 +275,49 @@ compiled_stays name pid page script bytes free compiled known missed anchor suit
     many : length loads ≡ length sets
     many =
         as_many loads compiled.units compiled.sized
-        ∙ (count_sets script page sets compiled.units known.sent known.are.are).1
+        ∙ (count_sets compiling.script compiling.page sets compiled.units known.sent known.are.are).1
 
     holds : Holds loads pace compiled.table
-    holds = compiled_holds name pid page script bytes compiled known compiled.each
+    holds = compiled_holds compiling bytes compiled known compiled.each
 
     is_entry : IsEntry loads compiled.table.slots painted entry
     is_entry =
-        compiled_is_entry name pid page script bytes compiled known compiled.each painted missed
+        compiled_is_entry compiling bytes compiled known compiled.each painted missed
         (λ i inside. heard_most loads late.first i)
 
-    heard : (slot : ℕ) (calls : List Call) → AreCallsBefore slot name pid (only page) anchor missed packets calls
+    heard : (slot : ℕ) (calls : List Call) → AreCallsBefore slot (received_by compiling anchor) missed packets calls
         → calls ≡ entered_calls loads compiled.table.slots slot painted entry (length loads)
     heard slot calls given =
-        heard_calls name pid page script bytes free compiled known compiled.each anchor missed slot suits late calls
+        heard_calls compiling bytes free compiled known compiled.each anchor missed slot suits late calls
         given
 
     at_slot : (slot : ℕ) (calls : List Call)
-        → AreCallsBefore (slot + 1) name pid (only page) anchor missed packets calls
+        → AreCallsBefore (slot + 1) (received_by compiling anchor) missed packets calls
         → calls ≡ entered_calls loads compiled.table.slots (suc slot) painted entry (length loads)
     at_slot slot calls given =
         heard (slot + 1) calls given
         ∙ ap (λ bound. entered_calls loads compiled.table.slots bound painted entry (length loads)) (next_slot slot)
 
     given_before : (slot : ℕ) → (calls : List Call)
-        × AreCallsBefore slot name pid (only page) anchor missed packets calls
+        × AreCallsBefore slot (received_by compiling anchor) missed packets calls
     given_before slot =
         let some =
-        compiled_read name pid page script bytes free compiled known compiled.each anchor missed
+        compiled_read compiling bytes free compiled known compiled.each anchor missed
         (min (slot - missed) (length (drop missed packets))) suits late in (
-          reverse (calls_from itself (profile_of name).coded pid (only page) missed []
-              (packets_taken pid (drop missed (take slot packets)))
-              (set_calls (profile_of name) anchor (reverse some.0))),
+          reverse (calls_from itself (profile_of compiling.profile).coded compiling.pid (only compiling.page) missed []
+              (packets_taken compiling.pid (drop missed (take slot packets)))
+              (set_calls (profile_of compiling.profile) anchor (reverse some.0))),
           record {
             past = some.0;
             received = subst
-                (λ (found : List (List ℕ)). HasReceived (profile_of name) pid (only page) false found some.0)
+                (λ (found : List (List ℕ)). HasReceived (received_by compiling anchor) false found some.0)
                 (sym (before_slot missed slot packets)) some.1;
             are = refl;
           },
         )
 
     is_decoded : (calls : List Call)
-        → AreCallsBefore (length packets) name pid (only page) anchor missed packets calls
+        → AreCallsBefore (length packets) (received_by compiling anchor) missed packets calls
         → (number : ℕ) (set : PlannedSet)
         → slice_get sets number ≡ Some set → is_from missed (sent_set compiled.table number set) ≡ true
         → IsDecodedBy (done_sets pace calls) set.pts
@@ -326,42 +327,42 @@ compiled_stays name pid page script bytes free compiled known missed anchor suit
         let behind : entry.set ≤ number = elim (cases_lt number late.first) [
           | inl before ↦ absurd (let no : true ≡ false = sym from ∙ (late.whole number set there).0 before in cc)
           | inr later ↦ omega
-              (arith, later, entry_before name pid page script bytes free compiled known compiled.each missed late)
+              (arith, later, entry_before compiling bytes free compiled known compiled.each missed late)
         ] in
         let time : (load_of loads number).pts ≡ set.pts =
-        sym (planned_times script sets loads compiled.planned.asked number there)
+        sym (planned_times compiling.script sets loads compiled.planned.asked number there)
         ∙ time_found sets number set found in
         subst (IsDecodedBy (done_sets pace calls)) time
         (subst (λ (found : List Call). IsDecodedBy (done_sets pace found) (load_of loads number).pts)
         (sym (heard (length packets) calls given))
         (set_decoded loads pace compiled.table (length packets) painted entry (length loads) number holds is_entry
         (omega arith) behind inside
-        (all_whole name pid page script bytes compiled known compiled.each number inside)))
+        (all_whole compiling bytes compiled known compiled.each number inside)))
 
     is_ended : (calls : List Call)
-        → AreCallsOf (profile_of name) pid (only page) anchor missed true (entered_at missed packets) calls
-        → AreCallsBefore (length packets) name pid (only page) anchor missed packets calls
+        → AreCallsOf (received_by compiling anchor) missed true (entered_at missed packets) calls
+        → AreCallsBefore (length packets) (received_by compiling anchor) missed packets calls
     is_ended calls given =
         let all : take (length packets) packets ≡ packets = take_all (length packets) packets (omega arith) in
-        subst (λ (found : List (List ℕ)). AreCallsOf (profile_of name) pid (only page) anchor missed false
+        subst (λ (found : List (List ℕ)). AreCallsOf (received_by compiling anchor) missed false
         (entered_at missed found) calls) (sym all) (record {
           past = given.past;
           received =
               subst (λ (found : List (Delivery (List ℕ))). AreDeliveriesRead (reverse found) given.past)
-              (ended_sets name pid page script bytes free compiled known compiled.each missed) given.received;
+              (ended_sets compiling bytes free compiled known compiled.each missed) given.received;
           are = given.are;
         })
 
     not_worse : (slot other : ℕ) (calls whole : List Call)
         → IsAnchorOf (first_times_from 0 (sent_sets compiled.table sets)) other
-        → AreCallsBefore (slot + 1) name pid (only page) anchor missed packets calls
-        → AreCallsBefore (slot + 1) name pid (only page) other 0 packets whole
+        → AreCallsBefore (slot + 1) (received_by compiling anchor) missed packets calls
+        → AreCallsBefore (slot + 1) (received_by compiling other) 0 packets whole
         → (level_at pace slot 0 calls ≤ level_at pace slot 0 whole)
         × AreDoneNoLater (done_sets pace calls) (done_sets pace whole)
     not_worse slot other calls whole suits_too given all =
         let some_are = at_slot slot calls given in
         let all_are =
-        whole_calls name pid page script bytes free compiled known compiled.each other (slot + 1) suits_too whole
+        whole_calls compiling bytes free compiled known compiled.each other (slot + 1) suits_too whole
         all ∙ ap (λ bound. entered_calls loads compiled.table.slots bound (planned_painting loads) whole_entry
         (length loads)) (next_slot slot) in (
           omega (

@@ -7,13 +7,11 @@ use Rattle.std.specs.List.{list_any}
 use Rattle.std.proofs.lemmas.Option.{slice_get_within}
 use Rattle.sub_base.specs.Pace.{pace_of}
 use Rattle.sub_base.specs.Profile.{profile_of}
-use Rattle.sub_base.specs.declared.profile.ProfileName.{ProfileName}
 use Rattle.cue_list.specs.Sound.{IsTick}
-use Rattle.cue_list.specs.declared.script.Script.{Script}
 use Rattle.schedule.specs.Packets.{first_packet, packets_of}
 use Rattle.schedule.specs.Slots.{IsLoad, slots_of}
 use Rattle.schedule.proofs.SumLaws.{sum_below-suc}
-use Rattle.shown_stream.specs.Compiled.{IsCompiledTo, all_units}
+use Rattle.shown_stream.specs.Compiled.{IsCompiledTo, all_units, Compiling}
 use Rattle.shown_stream.specs.SentSets.{sent_set, sent_sets, first_times_from}
 use Rattle.shown_stream.specs.Shows.{IsAnchorOf}
 use Rattle.shown_stream.proofs.Calls.CompiledCalls.{compiled_stream, compiled_entry}
@@ -37,50 +35,53 @@ use Rattle.sent_sets.proofs.PacketCounts.{as_many}
 use Rattle.sent_sets.proofs.SlotPlaces.{some_from}
 
 -- a packet of the entry's set comes
-entry_comes : (name : ProfileName) (pid page : ℕ) (script : Script) (bytes : List ℕ)
-    (compiled : IsCompiledTo name pid page script bytes) (known : ArePackets name pid page script bytes compiled)
+entry_comes : (compiling : Compiling) (bytes : List ℕ)
+    (compiled : IsCompiledTo compiling bytes) (known : ArePackets compiling bytes compiled)
     (loads_are : All IsLoad compiled.loads) (missed : ℕ)
-    → (compiled_entry name pid page script bytes compiled known loads_are missed).set < length compiled.loads
+    → (compiled_entry compiling bytes compiled known loads_are missed).set < length compiled.loads
     → list_any (λ at. nat_le missed at)
-    (slots_of compiled.table (compiled_entry name pid page script bytes compiled known loads_are missed).set)
+    (slots_of compiled.table (compiled_entry compiling bytes compiled known loads_are missed).set)
     ≡ true
-entry_comes name pid page script bytes compiled known loads_are missed inside =
+entry_comes compiling bytes compiled known loads_are missed inside =
     let loads = compiled.loads in
-    let is = compiled_stream name pid page script bytes compiled known loads_are in
-    let entry = compiled_entry name pid page script bytes compiled known loads_are missed in
+    let is = compiled_stream compiling bytes compiled known loads_are in
+    let entry = compiled_entry compiling bytes compiled known loads_are missed in
     let begun =
-    entry_not_begun (profile_of name).coded (only page) loads compiled.table.slots compiled.units known.sent missed
+    entry_not_begun (profile_of compiling.profile).coded (only compiling.page) loads compiled.table.slots compiled.units
+    known.sent missed
     is inside in
     let within = begun.0 in
-    some_from loads (length loads) (pace_of script.origin (profile_of name)) compiled.table compiled.schedule missed
+    some_from loads (length loads) (pace_of compiling.script.origin (profile_of compiling.profile)) compiled.table
+    compiled.schedule missed
     entry.set (first_packet loads entry.set + entry.packet) inside (omega arith)
     (omega (arith, within, sum_below-suc (packets_of loads) entry.set)) begun.1
 
 -- how many units of a compiled stream do not come whole behind so many packets
-abbrev pub cut_units : (name : ProfileName) (pid page : ℕ) (script : Script) (bytes : List ℕ)
-    (compiled : IsCompiledTo name pid page script bytes) (known : ArePackets name pid page script bytes compiled)
+abbrev pub cut_units : (compiling : Compiling) (bytes : List ℕ)
+    (compiled : IsCompiledTo compiling bytes) (known : ArePackets compiling bytes compiled)
     → All IsLoad compiled.loads → ℕ → ℕ
-cut_units name pid page script bytes compiled known loads_are missed =
-    units_missed (profile_of name).coded missed (all_units compiled.units) compiled.table.slots
-    (compiled_stream name pid page script bytes compiled known loads_are).whole
+cut_units compiling bytes compiled known loads_are missed =
+    units_missed (profile_of compiling.profile).coded missed (all_units compiled.units) compiled.table.slots
+    (compiled_stream compiling bytes compiled known loads_are).whole
 
 -- at most one set is cut, and it stands before the sets that come whole
-pub entry_before : (name : ProfileName) (pid page : ℕ) (script : Script) (bytes : List ℕ) → IsFree pid
-    → (compiled : IsCompiledTo name pid page script bytes) (known : ArePackets name pid page script bytes compiled)
+pub entry_before : (compiling : Compiling) (bytes : List ℕ) → IsFree compiling.pid
+    → (compiled : IsCompiledTo compiling bytes) (known : ArePackets compiling bytes compiled)
     (loads_are : All IsLoad compiled.loads) (missed : ℕ)
-    → (late : IsEnteredLate name pid page script bytes compiled known.sent missed)
-    → (compiled_entry name pid page script bytes compiled known loads_are missed).set + length late.rest
+    → (late : IsEnteredLate compiling bytes compiled known.sent missed)
+    → (compiled_entry compiling bytes compiled known loads_are missed).set + length late.rest
     ≡ late.first
-entry_before name pid page script bytes free compiled known loads_are missed late =
-    let coded = (profile_of name).coded in
-    let is = compiled_stream name pid page script bytes compiled known loads_are in
-    let n = cut_units name pid page script bytes compiled known loads_are missed in
+entry_before compiling bytes free compiled known loads_are missed late =
+    let coded = (profile_of compiling.profile).coded in
+    let is = compiled_stream compiling bytes compiled known loads_are in
+    let n = cut_units compiling bytes compiled known loads_are missed in
     let same =
-    late_sets coded pid (only page) missed (all_units compiled.units) known.sent compiled.table.slots free is.whole
+    late_sets coded compiling.pid (only compiling.page) missed (all_units compiled.units) known.sent
+    compiled.table.slots free is.whole
     known.are.carry known.apart is.pieces is.ahead in
     omega (
       arith,
-      count_behind coded (only page) compiled.loads n 0 compiled.units known.sent is.sent,
+      count_behind coded (only compiling.page) compiled.loads n 0 compiled.units known.sent is.sent,
       late.few,
       late.most,
       length-map (sets_behind n known.sent) delivered,
@@ -91,37 +92,38 @@ entry_before name pid page script bytes free compiled known loads_are missed lat
     )
 
 -- no set before the entry's comes whole
-none_before : (name : ProfileName) (pid page : ℕ) (script : Script) (bytes : List ℕ) → IsFree pid
-    → (compiled : IsCompiledTo name pid page script bytes) (known : ArePackets name pid page script bytes compiled)
+none_before : (compiling : Compiling) (bytes : List ℕ) → IsFree compiling.pid
+    → (compiled : IsCompiledTo compiling bytes) (known : ArePackets compiling bytes compiled)
     (loads_are : All IsLoad compiled.loads) (missed i : ℕ) (set : PlannedSet)
-    → i < (compiled_entry name pid page script bytes compiled known loads_are missed).set
+    → i < (compiled_entry compiling bytes compiled known loads_are missed).set
     → slice_get compiled.sets i ≡ Some set → is_from missed (sent_set compiled.table i set) ≡ false
-none_before name pid page script bytes free compiled known loads_are missed i set before found =
-    let late = compiled_late name pid page script bytes free compiled known missed in
-    let first = entry_before name pid page script bytes free compiled known loads_are missed late in
+none_before compiling bytes free compiled known loads_are missed i set before found =
+    let late = compiled_late compiling bytes free compiled known missed in
+    let first = entry_before compiling bytes free compiled known loads_are missed late in
     (late.whole i set (slice_get_within compiled.sets i set found)).0 (omega (arith, before, first))
 
 -- the sets from the entry's on are each ahead of the one before
-pub compiled_ahead : (name : ProfileName) (pid page : ℕ) (script : Script) (bytes : List ℕ) → IsFree pid
-    → (compiled : IsCompiledTo name pid page script bytes) (known : ArePackets name pid page script bytes compiled)
+pub compiled_ahead : (compiling : Compiling) (bytes : List ℕ) → IsFree compiling.pid
+    → (compiled : IsCompiledTo compiling bytes) (known : ArePackets compiling bytes compiled)
     (loads_are : All IsLoad compiled.loads) (missed anchor : ℕ)
     → IsAnchorOf (first_times_from missed (sent_sets compiled.table compiled.sets)) anchor
     → AreAheadOf anchor None
-    (drop (compiled_entry name pid page script bytes compiled known loads_are missed).set compiled.sets)
-compiled_ahead name pid page script bytes free compiled known loads_are missed anchor suits =
+    (drop (compiled_entry compiling bytes compiled known loads_are missed).set compiled.sets)
+compiled_ahead compiling bytes free compiled known loads_are missed anchor suits =
     let sets = compiled.sets in
     let plan = compiled.planned.plan in
-    let first = (compiled_entry name pid page script bytes compiled known loads_are missed).set in
-    let low = low_origin script in
+    let first = (compiled_entry compiling bytes compiled known loads_are missed).set in
+    let low = low_origin compiling.script in
     let many =
     as_many compiled.loads compiled.units compiled.sized
-    ∙ (count_sets script page sets compiled.units known.sent known.are.are).1 in
-    near_first anchor script.origin (drop first sets) (omega arith)
-    (drop_within (IsTick script.origin) first sets (times_in_span script (profile_of name) sets plan))
-    (drop_rises first sets (pts_rise script (profile_of name) sets plan))
+    ∙ (count_sets compiling.script compiling.page sets compiled.units known.sent known.are.are).1 in
+    near_first anchor compiling.script.origin (drop first sets) (omega arith)
+    (drop_within (IsTick compiling.script.origin) first sets
+    (times_in_span compiling.script (profile_of compiling.profile) sets plan))
+    (drop_rises first sets (pts_rise compiling.script (profile_of compiling.profile) sets plan))
     (λ set found. let there = found_drop first sets set found in
     first_suits anchor missed first compiled.table sets set suits there
-    (entry_comes name pid page script bytes compiled known loads_are missed
+    (entry_comes compiling bytes compiled known loads_are missed
     (omega (arith, many, slice_get_within sets first set there)))
-    (λ i one before stands. none_before name pid page script bytes free compiled known loads_are missed i one before
+    (λ i one before stands. none_before compiling bytes free compiled known loads_are missed i one before
     stands))

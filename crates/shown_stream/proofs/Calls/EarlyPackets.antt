@@ -19,11 +19,11 @@ use Rattle.scheduled_level_laws.proofs.EnteredSums.{AreSlots, within_slots, risi
 use Rattle.slot_stream.specs.SlotStream.{Piece, packet_of, all_pieces, pieces_of}
 use Rattle.received_level_laws.specs.StreamCalls.{count_with}
 use Rattle.shown_stream.proofs.Calls.BroughtPieces.{Brings, null_brings, further_brings}
-use Rattle.shown_stream.proofs.Calls.CallsOfPackets.{laid_here, laid_later, used_next, walk_none, walk}
-use Rattle.shown_stream.proofs.Calls.CallsOfPieces.{AreUsedUp, Add, one_more, AreSentSets, units_in, AreLeft, Piecewise, Position, nothing_left, goes_on, begin_unit, dropped, unit_has_bytes}
+use Rattle.shown_stream.proofs.Calls.CallsOfPackets.{laid_here, laid_later, used_next, Awaits, laid_from, Tell, walk_none, walk}
+use Rattle.shown_stream.proofs.Calls.CallsOfPieces.{Hearing, Place, place_at, AreUsedUp, Add, one_more, AreSentSets, units_in, Course, Piecewise, Position, nothing_left, goes_on, begin_unit, dropped, unit_has_bytes}
 use Rattle.shown_stream.proofs.Calls.EnteredSlots.{IsNotBegun, nothing_yet}
 use Rattle.slot_stream.proofs.LaidPackets.{laid, IsAhead}
-use Rattle.slot_stream.proofs.SentPieces.{IsFree, AreFurther, FollowsOn, says}
+use Rattle.slot_stream.proofs.SentPieces.{AreFurther, FollowsOn, says}
 use Rattle.slot_stream.proofs.SentStream.{its_pieces}
 use Rattle.shown_stream.proofs.Sent.SetPackets.{bytes_in}
 use Rattle.shown_stream.proofs.Calls.SetsInHand.{HaveCome, sets_whole, no_unit_more, plain_piece, count_is}
@@ -57,38 +57,40 @@ pub data Behind (coded : ℕ) (pages : Pages) (loads : List WriteLoad) (entry : 
       → Behind coded pages loads entry first behind
 
 -- behind these packets nothing came yet, and pieces of a unit that was not begun are next
-pub record Early (coded pid : ℕ) (pages : Pages) (loads : List WriteLoad) (slots : List ℕ) (entry : Entry)
-    (slot number : ℕ) (before : List (List ℕ)) (further behind : List Piece) : Type 0 where
+pub record Early (hearing : Hearing) (place : Place) (further behind : List Piece) : Type 0 where
   pub rest : AreFurther further
-  pub hand : hand_after pid coded before ≡ None
-  pub follows : FollowsOn (last_counter pid before) number
-  pub passed : (q : ℕ) → q < number → slice_index slots q < slot
-  pub came : (set : TimedSet) → HaveCome coded pid pages before [] set 0
-  pub next : Behind coded pages loads entry (number + length further) behind
+  pub hand : hand_after hearing.pid hearing.coded place.before ≡ None
+  pub follows : FollowsOn (last_counter hearing.pid place.before) place.number
+  pub passed : (q : ℕ) → q < place.number → slice_index hearing.slots q < place.slot
+  pub at_entry : place.set ≡ hearing.entry.set
+  pub came : (set : TimedSet) → HaveCome hearing.coded hearing.pid hearing.pages place.before [] set 0
+  pub next : Behind hearing.coded hearing.pages hearing.loads hearing.entry (place.number + length further) behind
 
 same_number : (n : ℕ) → eqb n n ≡ true
 same_number n = grind (arith, nat_tests)
 
 -- behind the rest of the unit the first unit begins
-reaches : (coded pid : ℕ) (pages : Pages) (loads : List WriteLoad) (slots : List ℕ) (entry : Entry)
-    (slot number : ℕ) (before : List (List ℕ)) (behind : List Piece)
-    → Early coded pid pages loads slots entry slot number before [] behind
-    → Position coded pid pages loads slots entry slot number entry.set before behind
-reaches coded pid pages loads slots entry slot number before behind early = by behind early.next
+reaches : (hearing : Hearing) (place : Place) (behind : List Piece) → Early hearing place [] behind
+    → Position hearing place behind
+reaches hearing place behind early = by behind early.next
   where
-    by : (behind : List Piece) → Behind coded pages loads entry (number + 0) behind
-        → Position coded pid pages loads slots entry slot number entry.set before behind
+    by : (behind : List Piece)
+        → Behind hearing.coded hearing.pages hearing.loads hearing.entry (place.number + 0) behind
+        → Position hearing place behind
     by behind (nothing_behind none) = nothing_left
-    by behind (begins first) = goes_on (subst (Position_of) (sym first.behind_is)
-        (begin_unit coded pid pages loads slots entry slot number entry.set entry.packet before [] first.set 0
-        first.groups first.later first.unit first.units
+    by behind (begins first) =
+        goes_on (subst (Piecewise hearing place) (sym first.behind_is)
+        (subst (λ (set : ℕ). Piecewise hearing (place_at place.slot place.number set place.before)
+        (all_pieces (first.unit ∷ first.units) ++ all_pieces (units_in first.groups))) (sym early.at_entry)
+        (begin_unit hearing there course first.unit first.units
         (record {
           inside = first.inside;
           numbered = (let same = first.numbered in omega (arith, same));
           begun = omega arith;
           counted =
-              (let own : from_of entry entry.set
-              ≡ entry.packet = ap (λ b. cond b entry.packet 0) (same_number entry.set) in omega (arith, own));
+              (let own : from_of hearing.entry hearing.entry.set ≡ hearing.entry.packet =
+              ap (λ b. cond b hearing.entry.packet 0) (same_number hearing.entry.set) in
+              omega (arith, own));
           passed = early.passed;
           follows = early.follows;
           came = early.came first.set;
@@ -97,36 +99,58 @@ reaches coded pid pages loads slots entry slot number before behind early = by b
           apart = first.apart;
           sent = first.sent;
         })
-        first.units_are first.whole early.hand first.own))
+        (record { units_are = first.units_are; whole = first.whole; hand = early.hand; own = first.own }))))
       where
-        Position_of : List Piece → Type 0
-        Position_of left = Piecewise coded pid pages loads slots entry slot number entry.set before left
+        there : Place
+        there = place_at place.slot place.number hearing.entry.set place.before
+
+        course : Course
+        course = record {
+          k = hearing.entry.packet;
+          sets = [];
+          set = first.set;
+          u = 0;
+          groups = first.groups;
+          later = first.later;
+        }
 
 -- ---- the packets of the rest
 
--- a packet that brings nothing, early
-early_more : (coded pid : ℕ) (pages : Pages) (loads : List WriteLoad) (slots : List ℕ) (painted : ℕ → ℕ)
-    (entry : Entry) (slot m : ℕ) (before packets : List (List ℕ)) (packet : List ℕ) (calls : List (List Call))
-    (hand : Option (List ℕ)) (counter : Option ℕ) → AreSlots loads slots
-    → Brings pid coded before packet 0 None hand counter → packet_fault pid packet ≡ None
-    → ((set : TimedSet) → HaveCome coded pid pages before [] set 0) → IsNotBegun loads slots entry slot
-    → IsNotBegun loads slots entry (slot + 1)
-    → AreUsedUp coded pid pages before (packet ∷ packets) (length calls)
-    → (AreUsedUp coded pid pages (before ++ packet ∷ []) packets (length calls)
-    → Add coded pid pages loads slots painted entry (slot + 1) (before ++ packet ∷ []) packets calls m)
-    → Add coded pid pages loads slots painted entry slot before (packet ∷ packets) calls (suc m)
-early_more coded pid pages loads slots painted entry slot m before packets packet calls hand counter are brings taken
-    came early still used onward =
+-- a packet brings nothing, early: no set came before it, and the entry's packet stands behind it
+record BringsNothing (hearing : Hearing) (place : Place) (packet : List ℕ) : Type 0 where
+  hand : Option (List ℕ)
+  counter : Option ℕ
+  brings : Brings hearing.pid hearing.coded place.before packet 0 None hand counter
+  taken : packet_fault hearing.pid packet ≡ None
+  came : (set : TimedSet) → HaveCome hearing.coded hearing.pid hearing.pages place.before [] set 0
+  early : IsNotBegun hearing.loads hearing.slots hearing.entry place.slot
+  still : IsNotBegun hearing.loads hearing.slots hearing.entry (place.slot + 1)
+
+-- such a packet, and those behind it
+early_more : (hearing : Hearing) (place : Place) (m : ℕ) (packets : List (List ℕ)) (packet : List ℕ)
+    (calls : List (List Call)) → BringsNothing hearing place packet
+    → (AreUsedUp hearing.coded hearing.pid hearing.pages (place.before ++ packet ∷ []) packets (length calls)
+    → Add hearing (place.slot + 1) (place.before ++ packet ∷ []) packets calls m)
+    → AreUsedUp hearing.coded hearing.pid hearing.pages place.before (packet ∷ packets) (length calls)
+    → Add hearing place.slot place.before (packet ∷ packets) calls (suc m)
+early_more hearing place m packets packet calls nothing onward = λ used.
+    let coded = hearing.coded in
+    let pid = hearing.pid in
+    let pages = hearing.pages in
     let set : TimedSet = record { time = 0; units = [] } in
-    let counted : count_with coded pid pages before packet ≡ 0 =
-    count_is coded pid pages before packet [] [] (sets_whole coded pid pages before [] set (came set) tt tt)
-    (sets_whole coded pid pages (before ++ packet ∷ []) [] set
-    (no_unit_more coded pid pages 0 before packet hand counter [] set 0 (came set) taken brings) tt tt) in
-    one_more coded pid pages loads slots painted entry slot 0 0 m before packet packets calls
-    (plain_piece coded pid pages 0 before packet hand counter brings) counted
-    (nothing_yet loads slots painted entry slot (length loads) are (omega arith) early
-    ∙ sym (nothing_yet loads slots painted entry (slot + 1) (length loads) are (omega arith) still))
-    (onward (used_next coded pid pages 0 before packets packet calls counted used).1)
+    let counted : count_with coded pid pages place.before packet ≡ 0 =
+    count_is coded pid pages place.before packet [] []
+    (sets_whole coded pid pages place.before [] set (nothing.came set) tt tt)
+    (sets_whole coded pid pages (place.before ++ packet ∷ []) [] set
+    (no_unit_more coded pid pages 0 place.before packet nothing.hand nothing.counter [] set 0 (nothing.came set)
+    nothing.taken nothing.brings) tt tt) in
+    one_more hearing place.slot 0 0 m place.before packet packets calls
+    (plain_piece coded pid pages 0 place.before packet nothing.hand nothing.counter nothing.brings) counted
+    (nothing_yet hearing.loads hearing.slots hearing.painted hearing.entry place.slot (length hearing.loads)
+    hearing.are (omega arith) nothing.early
+    ∙ sym (nothing_yet hearing.loads hearing.slots hearing.painted hearing.entry (place.slot + 1)
+    (length hearing.loads) hearing.are (omega arith) nothing.still))
+    (onward (used_next coded pid pages 0 place.before packets packet calls counted used).1)
 
 -- the entry's packet stands behind the slot of a packet before it
 not_begun : (coded : ℕ) (pages : Pages) (loads : List WriteLoad) (slots : List ℕ) (entry : Entry)
@@ -164,134 +188,182 @@ less_begun : (loads : List WriteLoad) (slots : List ℕ) (entry : Entry) (slot :
     → IsNotBegun loads slots entry (slot + 1) → IsNotBegun loads slots entry slot
 less_begun loads slots entry slot h = λ inside. (let told = h inside in (told.0, omega (arith, told.1)))
 
--- so many packets from a slot on, early, add the calls of the scheduled sets
-abbrev pub EarlyWalk : (coded pid : ℕ) (pages : Pages) (loads : List WriteLoad) (slots : List ℕ)
-    (painted : ℕ → ℕ) (entry : Entry) (m : ℕ) → Type 0
-EarlyWalk coded pid pages loads slots painted entry m =
-    (slot number : ℕ) (before : List (List ℕ)) (further behind : List Piece) (places : List ℕ)
-    (calls : List (List Call)) → Early coded pid pages loads slots entry slot number before further behind
-    → IsAhead slot places → drop number slots ≡ places
-    → AreLeft loads painted entry entry.set calls → m ≤ length (laid pid slot number (further ++ behind) places)
-    → AreUsedUp coded pid pages before (take m (laid pid slot number (further ++ behind) places)) (length calls)
-    → Add coded pid pages loads slots painted entry slot before
-    (take m (laid pid slot number (further ++ behind) places)) calls m
+-- so many packets from a place on, early, add the calls of the scheduled sets
+abbrev pub EarlyWalk : (hearing : Hearing) (m : ℕ) → Type 0
+EarlyWalk hearing m =
+    (place : Place) (further behind : List Piece) (places : List ℕ) (calls : List (List Call))
+    → Early hearing place further behind → Awaits hearing place places calls
+    → Tell hearing place m calls (laid_from hearing place (further ++ behind) places)
 
-early_step : (coded pid : ℕ) (pages : Pages) (loads : List WriteLoad) (slots : List ℕ) (painted : ℕ → ℕ)
-    (entry : Entry) (m : ℕ) → IsFree pid → AreSlots loads slots
-    → EarlyWalk coded pid pages loads slots painted entry m
-    → (slot number : ℕ) (before : List (List ℕ)) (piece : Piece) (further behind : List Piece) (places : List ℕ)
-    (calls : List (List Call))
-    → Early coded pid pages loads slots entry slot number before (piece ∷ further) behind
-    → IsAhead slot places → drop number slots ≡ places
-    → AreLeft loads painted entry entry.set calls
-    → suc m ≤ length (laid pid slot number (piece ∷ (further ++ behind)) places)
-    → AreUsedUp coded pid pages before
-    (take (suc m) (laid pid slot number (piece ∷ (further ++ behind)) places)) (length calls)
-    → Add coded pid pages loads slots painted entry slot before
-    (take (suc m) (laid pid slot number (piece ∷ (further ++ behind)) places)) calls (suc m)
-early_step coded pid pages loads slots painted entry m free are walk slot number before piece further behind [] calls
-    early ahead at is_left many used = absurd (omega arith)
-early_step coded pid pages loads slots painted entry m free are walk slot number before piece further behind
-    (first ∷ places) calls early ahead at is_left many used =
-    elim (cases_lt slot first) [
-      | inl later ↦ subst From (sym (laid_later pid slot number first piece (further ++ behind) places later))
-          (null_here later) many used
-      | inr most ↦
-          (let least = ahead.0 in let same : first
-          ≡ slot = omega arith in subst From
-          (sym (laid_here pid slot number first piece (further ++ behind) places same)) (piece_here same) many used)
-    ]
+-- one packet more of the rest of a unit, which waits for its slot
+record EarlyWaiting (hearing : Hearing) : Type 0 where
+  place : Place
+  piece : Piece
+  further : List Piece
+  behind : List Piece
+  early : Early hearing place (piece ∷ further) behind
+  at : ℕ
+  places : List ℕ
+  calls : List (List Call)
+  awaits : Awaits hearing place (at ∷ places) calls
+
+still_early : (hearing : Hearing) (waits : EarlyWaiting hearing)
+    → IsNotBegun hearing.loads hearing.slots hearing.entry (waits.place.slot + 1)
+still_early hearing waits =
+    let place = waits.place in
+    let found = dropped place.number hearing.slots waits.at waits.places waits.awaits.places_are in
+    let least = waits.awaits.ahead.0 in
+    not_begun hearing.coded hearing.pages hearing.loads hearing.slots hearing.entry place.number
+    (length waits.further) place.slot waits.behind hearing.are (omega (arith, found.1, least)) waits.early.next
+
+-- a null packet, and those behind it
+early_null : (hearing : Hearing) (m : ℕ) → EarlyWalk hearing m → (waits : EarlyWaiting hearing)
+    → waits.place.slot < waits.at
+    → Tell hearing waits.place (suc m) waits.calls
+    (null_packet
+    ∷ laid hearing.pid (waits.place.slot + 1) waits.place.number (waits.piece ∷ (waits.further ++ waits.behind))
+    (waits.at ∷ waits.places))
+early_null hearing m walk waits later =
+    λ many used.
+    let place = waits.place in
+    let early = waits.early in
+    let still = still_early hearing waits in
+    let brings = null_brings hearing.pid hearing.coded place.before hearing.free in
+    let taken = null_is_taken hearing.pid (λ e. hearing.free.no_null (sym e)) in
+    early_more hearing place m
+    (take m
+    (laid hearing.pid (place.slot + 1) place.number (waits.piece ∷ (waits.further ++ waits.behind))
+    (waits.at ∷ waits.places)))
+    null_packet waits.calls
+    (record {
+      hand = hand_after hearing.pid hearing.coded place.before;
+      counter = last_counter hearing.pid place.before;
+      brings = brings;
+      taken = taken;
+      came = early.came;
+      early = less_begun hearing.loads hearing.slots hearing.entry place.slot still;
+      still = still;
+    })
+    (λ used_behind. walk (place_at (place.slot + 1) place.number place.set (place.before ++ null_packet ∷ []))
+    (waits.piece ∷ waits.further) waits.behind (waits.at ∷ waits.places) waits.calls
+    (record {
+      rest = early.rest;
+      hand = brings.hand_behind ∙ early.hand;
+      follows = subst (λ (last : Option ℕ). FollowsOn last place.number) (sym brings.counter_behind) early.follows;
+      passed = λ q low. (let less = early.passed q low in omega arith);
+      at_entry = early.at_entry;
+      came =
+          λ set. no_unit_more hearing.coded hearing.pid hearing.pages 0 place.before null_packet
+          (hand_after hearing.pid hearing.coded place.before) (last_counter hearing.pid place.before) [] set 0
+          (early.came set) taken brings;
+      next = early.next;
+    })
+    (record {
+      ahead = (omega arith, waits.awaits.ahead.1);
+      places_are = waits.awaits.places_are;
+      is_left = waits.awaits.is_left;
+    })
+    (omega arith) used_behind)
+    used
+
+-- the packet of a piece, and those behind it
+early_piece : (hearing : Hearing) (m : ℕ) → EarlyWalk hearing m → (waits : EarlyWaiting hearing)
+    → waits.at ≡ waits.place.slot
+    → Tell hearing waits.place (suc m) waits.calls
+    (packet_of hearing.pid waits.place.number waits.piece
+    ∷ laid hearing.pid (waits.place.slot + 1) (waits.place.number + 1) (waits.further ++ waits.behind) waits.places)
+early_piece hearing m walk waits same =
+    λ many used.
+    let place = waits.place in
+    let early = waits.early in
+    let still = still_early hearing waits in
+    let packet = packet_of hearing.pid place.number waits.piece in
+    let brings =
+    further_brings hearing.pid hearing.coded place.number place.before waits.piece hearing.free early.rest.0.0
+    early.rest.0.1 early.follows early.hand in
+    let taken = (says hearing.pid place.number waits.piece hearing.free early.rest.0.0).taken in
+    let found = dropped place.number hearing.slots waits.at waits.places waits.awaits.places_are in
+    let following : suc place.number ≡ place.number + 1 = omega arith in
+    let all : place.number + suc (length waits.further) ≡ place.number + 1 + length waits.further = omega arith in
+    early_more hearing place m
+    (take m (laid hearing.pid (place.slot + 1) (place.number + 1) (waits.further ++ waits.behind) waits.places)) packet
+    waits.calls
+    (record {
+      hand = None;
+      counter = Some (place.number % 16);
+      brings = brings;
+      taken = taken;
+      came = early.came;
+      early = less_begun hearing.loads hearing.slots hearing.entry place.slot still;
+      still = still;
+    })
+    (λ used_behind. walk (place_at (place.slot + 1) (place.number + 1) place.set (place.before ++ packet ∷ []))
+    waits.further waits.behind waits.places waits.calls
+    (record {
+      rest = early.rest.1;
+      hand = brings.hand_behind;
+      follows = inr (place.number % 16, brings.counter_behind, omega arith);
+      passed = λ q low.
+          elim (cases_lt q place.number) [
+            | inl less ↦ (let under = early.passed q less in omega arith)
+            | inr most ↦
+                (let here : q ≡ place.number = omega arith in
+                omega (arith, same, found.1, ap (slice_index hearing.slots) here))
+          ];
+      at_entry = early.at_entry;
+      came =
+          λ set. no_unit_more hearing.coded hearing.pid hearing.pages 0 place.before packet None
+          (Some (place.number % 16)) [] set 0 (early.came set) taken brings;
+      next =
+          subst (λ (first : ℕ). Behind hearing.coded hearing.pages hearing.loads hearing.entry first waits.behind) all
+          early.next;
+    })
+    (record {
+      ahead = subst (λ (n : ℕ). IsAhead (n + 1) waits.places) same waits.awaits.ahead.1;
+      places_are = ap (λ n. drop n hearing.slots) (sym following) ∙ found.2;
+      is_left = waits.awaits.is_left;
+    })
+    (omega arith) used_behind)
+    used
+
+-- one packet more
+early_step : (hearing : Hearing) (m : ℕ) → EarlyWalk hearing m → EarlyWalk hearing (suc m)
+early_step hearing m onward = by
   where
-    From : List (List ℕ) → Type 0
-    From packets = suc m ≤ length packets → AreUsedUp coded pid pages before (take (suc m) packets) (length calls)
-        → Add coded pid pages loads slots painted entry slot before (take (suc m) packets) calls (suc m)
-
-    still : IsNotBegun loads slots entry (slot + 1)
-    still =
-        let found = dropped number slots first places at in let least = ahead.0 in not_begun coded pages loads slots
-        entry number (length further) slot behind are (omega (arith, found.1, least)) early.next
-
-    null_here : slot < first
-        → From (null_packet ∷ laid pid (slot + 1) number (piece ∷ (further ++ behind)) (first ∷ places))
-    null_here later many used =
-        let brings = null_brings pid coded before free in
-        let taken = null_is_taken pid (λ e. free.no_null (sym e)) in
-        early_more coded pid pages loads slots painted entry slot m before
-        (take m (laid pid (slot + 1) number (piece ∷ (further ++ behind)) (first ∷ places))) null_packet calls
-        (hand_after pid coded before) (last_counter pid before) are brings taken early.came
-        (less_begun loads slots entry slot still) still used
-        (λ used_behind. walk (slot + 1) number (before ++ null_packet ∷ []) (piece ∷ further) behind
-        (first ∷ places) calls
-        (record {
-          rest = early.rest;
-          hand = brings.hand_behind ∙ early.hand;
-          follows = subst (λ (last : Option ℕ). FollowsOn last number) (sym brings.counter_behind) early.follows;
-          passed = λ q low. (let less = early.passed q low in omega arith);
-          came =
-              λ set. no_unit_more coded pid pages 0 before null_packet (hand_after pid coded before)
-              (last_counter pid before) [] set 0 (early.came set) taken brings;
-          next = early.next;
-        })
-        (omega arith, ahead.1) at is_left (omega arith) used_behind)
-
-    piece_here : first ≡ slot
-        → From (packet_of pid number piece ∷ laid pid (slot + 1) (number + 1) (further ++ behind) places)
-    piece_here same many used =
-        let packet = packet_of pid number piece in
-        let brings =
-        further_brings pid coded number before piece free early.rest.0.0 early.rest.0.1 early.follows early.hand in
-        let taken = (says pid number piece free early.rest.0.0).taken in
-        let found = dropped number slots first places at in
-        let following : suc number ≡ number + 1 = omega arith in
-        let all : number + suc (length further) ≡ number + 1 + length further = omega arith in
-        early_more coded pid pages loads slots painted entry slot m before
-        (take m (laid pid (slot + 1) (number + 1) (further ++ behind) places)) packet calls None
-        (Some (number % 16)) are brings taken early.came (less_begun loads slots entry slot still) still used
-        (λ used_behind. walk (slot + 1) (number + 1) (before ++ packet ∷ []) further behind places calls
-        (record {
-          rest = early.rest.1;
-          hand = brings.hand_behind;
-          follows = inr (number % 16, brings.counter_behind, omega arith);
-          passed = λ q low.
-              elim (cases_lt q number) [
-                | inl less ↦ (let under = early.passed q less in omega arith)
-                | inr most ↦
-                    (let here : q ≡ number = omega arith in omega (arith, same, found.1, ap (slice_index slots) here))
-              ];
-          came =
-              λ set. no_unit_more coded pid pages 0 before packet None (Some (number % 16)) [] set 0 (early.came set)
-              taken brings;
-          next = subst (λ (first : ℕ). Behind coded pages loads entry first behind) all early.next;
-        })
-        (subst (λ (n : ℕ). IsAhead (n + 1) places) same ahead.1)
-        (ap (λ n. drop n slots) (sym following) ∙ found.2) is_left (omega arith) used_behind)
+    by : EarlyWalk hearing (suc m)
+    by place [] behind places calls early awaits =
+        walk hearing (suc m) place behind places calls (reaches hearing place behind early) awaits
+    by place (piece ∷ further) behind [] calls early awaits = λ many used. absurd (omega arith)
+    by place (piece ∷ further) behind (first ∷ places) calls early awaits =
+        elim (cases_lt place.slot first) [
+          | inl later ↦
+              subst (Tell hearing place (suc m) calls)
+              (sym (laid_later hearing.pid place.slot place.number first piece (further ++ behind) places later))
+              (early_null hearing m onward waits later)
+          | inr most ↦
+              let least = awaits.ahead.0 in
+              let same : first ≡ place.slot = omega arith in
+              subst (Tell hearing place (suc m) calls)
+              (sym (laid_here hearing.pid place.slot place.number first piece (further ++ behind) places same))
+              (early_piece hearing m onward waits same)
+        ]
+      where
+        waits : EarlyWaiting hearing
+        waits = record {
+          place = place;
+          piece = piece;
+          further = further;
+          behind = behind;
+          early = early;
+          at = first;
+          places = places;
+          calls = calls;
+          awaits = awaits;
+        }
 
 -- the packets of a stream from any of them on
-pub early_walk : (coded pid : ℕ) (pages : Pages) (loads : List WriteLoad) (slots : List ℕ) (painted : ℕ → ℕ)
-    (entry : Entry) (m : ℕ) → IsFree pid → AreSlots loads slots
-    → EarlyWalk coded pid pages loads slots painted entry m
-early_walk coded pid pages loads slots painted entry zero free are =
-    λ slot number before further behind places calls early ahead at is_left many used.
-    walk_none coded pid pages loads slots painted entry slot number entry.set before [] places calls nothing_left ahead
-    at is_left (omega arith) used
-early_walk coded pid pages loads slots painted entry (suc m) free are =
-    λ slot number before further behind places calls early ahead at is_left many used. by slot number before further
-    behind places calls early ahead at is_left many used
-    (early_walk coded pid pages loads slots painted entry m free are)
-  where
-    by : (slot number : ℕ) (before : List (List ℕ)) (further behind : List Piece) (places : List ℕ)
-        (calls : List (List Call)) → Early coded pid pages loads slots entry slot number before further behind
-        → IsAhead slot places → drop number slots ≡ places
-        → AreLeft loads painted entry entry.set calls
-        → suc m ≤ length (laid pid slot number (further ++ behind) places)
-        → AreUsedUp coded pid pages before (take (suc m) (laid pid slot number (further ++ behind) places))
-        (length calls)
-        → EarlyWalk coded pid pages loads slots painted entry m
-        → Add coded pid pages loads slots painted entry slot before
-        (take (suc m) (laid pid slot number (further ++ behind) places)) calls (suc m)
-    by slot number before [] behind places calls early ahead at is_left many used onward =
-        walk coded pid pages loads slots painted entry (suc m) free are slot number entry.set before behind places calls
-        (reaches coded pid pages loads slots entry slot number before behind early) ahead at is_left many used
-    by slot number before (piece ∷ further) behind places calls early ahead at is_left many used onward =
-        early_step coded pid pages loads slots painted entry m free are onward slot number before piece further behind
-        places calls early ahead at is_left many used
+pub early_walk : (hearing : Hearing) (m : ℕ) → EarlyWalk hearing m
+early_walk hearing zero =
+    λ place further behind places calls early awaits many used.
+    walk_none hearing place [] places calls nothing_left awaits (omega arith) used
+early_walk hearing (suc m) = early_step hearing m (early_walk hearing m)

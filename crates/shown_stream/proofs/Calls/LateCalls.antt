@@ -18,7 +18,7 @@ use Rattle.scheduled_level_laws.specs.EnteredCalls.{Entry, entered_calls}
 use Rattle.scheduled_level_laws.proofs.EnteredSums.{AreSlots, within_slots}
 use Rattle.slot_stream.specs.SlotStream.{Piece, all_pieces, pieces_of}
 use Rattle.received_level_laws.specs.StreamCalls.{itself, calls_from}
-use Rattle.shown_stream.proofs.Calls.CallsOfPieces.{AreUsedUp, IsSentSet, AreSentSets, units_in, AreLeft, unit_has_bytes}
+use Rattle.shown_stream.proofs.Calls.CallsOfPieces.{Hearing, place_at, AreUsedUp, IsSentSet, AreSentSets, units_in, AreLeft, unit_has_bytes}
 use Rattle.shown_stream.proofs.Calls.EarlyPackets.{Begins, Behind, nothing_behind, begins, Early, early_walk}
 use Rattle.shown_stream.proofs.Calls.EnteredSlots.{IsNotBegun, nothing_yet}
 use Rattle.slot_stream.proofs.LaidPackets.{laid, IsAhead}
@@ -365,7 +365,20 @@ late_calls coded pid pages loads slots groups sets painted missed m calls free i
     let behind =
     behind_units coded pages loads left.cut 0 (n + length left.further) groups sets is.sent is.apart
     (let many = is.many in omega arith) numbered in
-    let early : Early coded pid pages loads slots entry missed n [] left.further (all_pieces (drop left.cut units)) =
+    let hearing : Hearing =
+    record {
+      coded = coded;
+      pid = pid;
+      pages = pages;
+      loads = loads;
+      slots = slots;
+      painted = painted;
+      entry = entry;
+      free = free;
+      are = is.are;
+    } in
+    let place = place_at missed n entry.set [] in
+    let early : Early hearing place left.further (all_pieces (drop left.cut units)) =
     record {
       rest = left.rest;
       hand = no_hand pid coded;
@@ -373,6 +386,7 @@ late_calls coded pid pages loads slots groups sets painted missed m calls free i
       passed =
           λ q low. (let before = (passed_is (0 + missed) 0 q slots is.ahead (omega (arith, few, low))).0 low in omega
           arith);
+      at_entry = refl;
       came = none_came coded pid pages;
       next = behind;
     } in
@@ -390,8 +404,11 @@ late_calls coded pid pages loads slots groups sets painted missed m calls free i
     (sym (nothing_yet loads slots painted entry missed (length loads) is.are (omega arith)
     (not_yet coded pages loads slots entry missed n (length left.further) (all_pieces (drop left.cut units)) is.are
     is.ahead refl behind)))
-    ∙ early_walk coded pid pages loads slots painted entry m free is.are missed n [] left.further
-    (all_pieces (drop left.cut units)) (drop n slots) calls early
-    (subst (λ (place : ℕ). IsAhead place (drop n slots)) at_place (ahead_from (0 + missed) 0 slots is.ahead))
-    refl is_left many used)
+    ∙ early_walk hearing m place left.further (all_pieces (drop left.cut units)) (drop n slots) calls early
+    (record {
+      ahead = subst (λ (place : ℕ). IsAhead place (drop n slots)) at_place (ahead_from (0 + missed) 0 slots is.ahead);
+      places_are = refl;
+      is_left = is_left;
+    })
+    many used)
     many used

@@ -11,16 +11,14 @@ use Rattle.schedule.specs.Packets.{units_of, packets_of, payload_of, payloads_of
 use Rattle.stream_syntax.specs.Cutting.{IsUnit}
 use Rattle.stream_syntax.specs.TransportPackets.{null_packet}
 use Rattle.stream_syntax.specs.Units.{hand_after, last_counter}
-use Rattle.decoder_model.specs.declared.pages.Pages.{Pages}
 use Rattle.ts_packets.proofs.WrittenPackets.{null_is_taken}
 use Rattle.scheduled_level_laws.specs.EnteredCalls.{Entry, heard_load}
-use Rattle.scheduled_level_laws.proofs.EnteredSums.{AreSlots}
 use Rattle.slot_stream.specs.SlotStream.{Piece, packet_of, all_pieces, IsPiece}
 use Rattle.received_level_laws.specs.StreamCalls.{itself, count_with, arrived_in}
 use Rattle.shown_stream.proofs.Calls.BroughtPieces.{IsReady, null_brings, piece_brings}
-use Rattle.shown_stream.proofs.Calls.CallsOfPieces.{ArePiecesOf, bytes_left, E, units_in, AreLeft, Piecewise, Position, goes_on, dropped}
+use Rattle.shown_stream.proofs.Calls.CallsOfPieces.{ArePiecesOf, bytes_left, Hearing, Place, place_at, E, units_in, AreLeft, Course, Piecewise, Position, goes_on, dropped}
 use Rattle.shown_stream.proofs.Calls.EnteredSlots.{StandsAt, packet_adds, last_adds}
-use Rattle.slot_stream.proofs.SentPieces.{IsFree, FollowsOn, says}
+use Rattle.slot_stream.proofs.SentPieces.{FollowsOn, says}
 use Rattle.shown_stream.proofs.Sent.SetPackets.{bytes_in}
 use Rattle.shown_stream.proofs.Calls.SetsInHand.{sets_so_far, no_unit_more, slice_inside, IsPlain, plain_piece, count_is}
 use Rattle.sent_sets.proofs.Runs.{HaveDifferentTimes}
@@ -37,30 +35,25 @@ front_of_apart (first ∷ next ∷ sets) set later h = (h.0, front_of_apart (nex
 -- ---- a null packet
 
 -- behind a null packet the same is left
-pub null_more : (coded pid : ℕ) (pages : Pages) (loads : List WriteLoad) (slots : List ℕ) (entry : Entry)
-    (slot number i : ℕ) (before : List (List ℕ)) (left : List Piece) → IsFree pid
-    → Piecewise coded pid pages loads slots entry slot number i before left
-    → Piecewise coded pid pages loads slots entry (slot + 1) number i (before ++ null_packet ∷ []) left
-null_more coded pid pages loads slots entry slot number i before left free at =
-    let brings = null_brings pid coded before free in
+pub null_more : (hearing : Hearing) (place : Place) (left : List Piece) → Piecewise hearing place left
+    → Piecewise hearing (place_at (place.slot + 1) place.number place.set (place.before ++ null_packet ∷ [])) left
+null_more hearing place left at =
+    let brings = null_brings hearing.pid hearing.coded place.before hearing.free in
     let goes = at.goes in
     record {
-      k = at.k;
-      sets = at.sets;
-      set = at.set;
-      u = at.u;
-      groups = at.groups;
-      later = at.later;
+      course = at.course;
       goes = record {
         inside = goes.inside;
         numbered = goes.numbered;
         begun = goes.begun;
         counted = goes.counted;
         passed = λ q low. (let less = goes.passed q low in omega arith);
-        follows = subst (λ (last : Option ℕ). FollowsOn last number) (sym brings.counter_behind) goes.follows;
+        follows = subst (λ (last : Option ℕ). FollowsOn last place.number) (sym brings.counter_behind) goes.follows;
         came =
-            no_unit_more coded pid pages 0 before null_packet (hand_after pid coded before) (last_counter pid before)
-            at.sets at.set at.u goes.came (null_is_taken pid (λ e. free.no_null (sym e))) brings;
+            no_unit_more hearing.coded hearing.pid hearing.pages 0 place.before null_packet
+            (hand_after hearing.pid hearing.coded place.before) (last_counter hearing.pid place.before)
+            at.course.sets at.course.set at.course.u goes.came
+            (null_is_taken hearing.pid (λ e. hearing.free.no_null (sym e))) brings;
         all = goes.all;
         is = goes.is;
         apart = goes.apart;
@@ -85,38 +78,52 @@ null_more coded pid pages loads slots entry slot number i before left free at =
     }
 
 -- and no set comes with it
-pub null_count : (coded pid : ℕ) (pages : Pages) (loads : List WriteLoad) (slots : List ℕ) (entry : Entry)
-    (slot number i : ℕ) (before : List (List ℕ)) (left : List Piece) → IsFree pid
-    → Piecewise coded pid pages loads slots entry slot number i before left
-    → count_with coded pid pages before null_packet ≡ 0
+pub null_count : (hearing : Hearing) (place : Place) (left : List Piece) → Piecewise hearing place left
+    → count_with hearing.coded hearing.pid hearing.pages place.before null_packet ≡ 0
 unfolding null_more
-null_count coded pid pages loads slots entry slot number i before left free at =
+null_count hearing place left at =
     let goes = at.goes in
-    let behind = (null_more coded pid pages loads slots entry slot number i before left free at).goes.came in
-    let inside = slice_inside at.u at.set.units at.one at.found in
-    let apart = front_of_apart at.sets at.set at.later goes.apart in
-    count_is coded pid pages before null_packet at.sets []
-    (sets_so_far coded pid pages before at.sets at.set at.u goes.came goes.all goes.is apart inside)
-    (sets_so_far coded pid pages (before ++ null_packet ∷ []) at.sets at.set at.u behind goes.all goes.is apart
-    inside ∙ ap (map delivered) (sym (append-nil at.sets)))
+    let behind = (null_more hearing place left at).goes.came in
+    let inside = slice_inside at.course.u at.course.set.units at.one at.found in
+    let apart = front_of_apart at.course.sets at.course.set at.course.later goes.apart in
+    count_is hearing.coded hearing.pid hearing.pages place.before null_packet at.course.sets []
+    (sets_so_far hearing.coded hearing.pid hearing.pages place.before at.course.sets at.course.set at.course.u
+    goes.came goes.all goes.is apart inside)
+    (sets_so_far hearing.coded hearing.pid hearing.pages (place.before ++ null_packet ∷ []) at.course.sets
+    at.course.set at.course.u behind goes.all goes.is apart
+    inside ∙ ap (map delivered) (sym (append-nil at.course.sets)))
 
 -- ---- the packet of a piece
 
+-- the same sets came, and another packet of the set is next
+abbrev pub one_further : Course → Course
+one_further course = record {
+  k = suc course.k;
+  sets = course.sets;
+  set = course.set;
+  u = course.u;
+  groups = course.groups;
+  later = course.later;
+}
+
 -- what the next piece's packet adds, and what is left behind it
-pub record Step (coded pid : ℕ) (pages : Pages) (loads : List WriteLoad) (slots : List ℕ) (painted : ℕ → ℕ)
-    (entry : Entry) (slot number i : ℕ) (before : List (List ℕ)) (piece : Piece) (rest : List Piece) : Type 0 where
-  pub plain : IsPlain coded pid pages before (packet_of pid number piece) (length piece.bytes)
+pub record Step (hearing : Hearing) (place : Place) (piece : Piece) (rest : List Piece) : Type 0 where
+  pub plain : IsPlain hearing.coded hearing.pid hearing.pages place.before (packet_of hearing.pid place.number piece)
+      (length piece.bytes)
   pub count : ℕ
-  pub counted : count_with coded pid pages before (packet_of pid number piece) ≡ count
-  pub adds : (calls : List (List Call)) → count ≤ length calls → AreLeft loads painted entry i calls
+  pub counted : count_with hearing.coded hearing.pid hearing.pages place.before
+      (packet_of hearing.pid place.number piece) ≡ count
+  pub adds : (calls : List (List Call)) → count ≤ length calls
+      → AreLeft hearing.loads hearing.painted hearing.entry place.set calls
       → reverse
-      (arrived_in itself slot (length piece.bytes) ++ flat_map (λ (calls : List Call). calls) (take count calls))
-      ++ E loads slots painted entry slot ≡ E loads slots painted entry (slot + 1)
+      (arrived_in itself place.slot (length piece.bytes) ++ flat_map (λ (calls : List Call). calls) (take count calls))
+      ++ E hearing place.slot ≡ E hearing (place.slot + 1)
   pub next : ℕ
-  pub left_behind : (calls : List (List Call)) → AreLeft loads painted entry i calls
-      → AreLeft loads painted entry next (drop count calls)
-  pub onward : Position coded pid pages loads slots entry (slot + 1) (number + 1) next
-      (before ++ packet_of pid number piece ∷ []) rest
+  pub left_behind : (calls : List (List Call)) → AreLeft hearing.loads hearing.painted hearing.entry place.set calls
+      → AreLeft hearing.loads hearing.painted hearing.entry next (drop count calls)
+  pub onward : Position hearing
+      (place_at (place.slot + 1) (place.number + 1) next
+      (place.before ++ packet_of hearing.pid place.number piece ∷ [])) rest
 
 some_arrive : (slot bytes : ℕ) → 1 ≤ bytes → arrived_in itself slot bytes ≡ Arrived slot bytes ∷ []
 some_arrive slot bytes some = ap (λ none. cond none [] (Arrived slot bytes ∷ [])) (not_none bytes some)
@@ -131,23 +138,24 @@ first_is start front piece [] unit are = (are.0, are.1)
 first_is start front piece (next ∷ pieces) unit are = (are.0, are.1)
 
 -- where the packet of the next piece stands
-pub record Stands (coded pid : ℕ) (pages : Pages) (loads : List WriteLoad) (slots : List ℕ) (entry : Entry)
-    (slot number i : ℕ) (before : List (List ℕ)) (left : List Piece)
-    (at : Piecewise coded pid pages loads slots entry slot number i before left) : Type 0 where
-  pub stands : StandsAt loads slots entry i at.k slot
-  pub payload : payload_of loads i at.k ≡ length at.piece.bytes
-  pub many : packets_of loads i ≡ at.k + suc (length (at.pieces ++ all_pieces at.units))
-  pub own_left : drop (suc at.k) (payloads_of (units_of loads i)) ≡ map bytes_in (at.pieces ++ all_pieces at.units)
-  pub passed_here : (q : ℕ) → q < number + 1 → slice_index slots q < slot + 1
+pub record Stands (hearing : Hearing)
+    (place : Place) (left : List Piece)
+    (at : Piecewise hearing place left) : Type 0 where
+  pub stands : StandsAt hearing.loads hearing.slots hearing.entry place.set at.course.k place.slot
+  pub payload : payload_of hearing.loads place.set at.course.k ≡ length at.piece.bytes
+  pub many : packets_of hearing.loads place.set ≡ at.course.k + suc (length (at.pieces ++ all_pieces at.units))
+  pub own_left : drop (suc at.course.k) (payloads_of (units_of hearing.loads place.set)) ≡ map bytes_in
+      (at.pieces ++ all_pieces at.units)
+  pub passed_here : (q : ℕ) → q < place.number + 1 → slice_index hearing.slots q < place.slot + 1
 
-pub stands_here : (coded pid : ℕ) (pages : Pages) (loads : List WriteLoad) (slots : List ℕ) (entry : Entry)
-    (slot number i : ℕ) (before : List (List ℕ)) (left : List Piece)
-    (at : Piecewise coded pid pages loads slots entry slot number i before left) → slice_index slots number ≡ slot
-    → Stands coded pid pages loads slots entry slot number i before left at
-stands_here coded pid pages loads slots entry slot number i before left at here =
+pub stands_here : (hearing : Hearing)
+    (place : Place) (left : List Piece)
+    (at : Piecewise hearing place left) → slice_index hearing.slots place.number ≡ place.slot
+    → Stands hearing place left at
+stands_here hearing place left at here =
     let goes = at.goes in
     let told =
-    dropped at.k (payloads_of (units_of loads i)) (length at.piece.bytes)
+    dropped at.course.k (payloads_of (units_of hearing.loads place.set)) (length at.piece.bytes)
     (map bytes_in (at.pieces ++ all_pieces at.units)) at.own in
     record {
       stands = record {
@@ -155,62 +163,63 @@ stands_here coded pid pages loads slots entry slot number i before left at here 
         within = omega (arith, told.0);
         begun = goes.begun;
         counted = goes.counted;
-        here = ap (slice_index slots) (sym goes.numbered) ∙ here;
+        here = ap (slice_index hearing.slots) (sym goes.numbered) ∙ here;
       };
       payload = told.1;
       many = omega (arith, told.0, length-map (at.pieces ++ all_pieces at.units) bytes_in);
       own_left = told.2;
       passed_here = λ q low.
-          elim (cases_lt q number) [
+          elim (cases_lt q place.number) [
             | inl less ↦ (let under = goes.passed q less in omega arith)
-            | inr most ↦ (let same : q ≡ number = omega arith in omega (arith, here, ap (slice_index slots) same))
+            | inr most ↦ (let same : q ≡ place.number = omega arith in omega
+                (arith, here, ap (slice_index hearing.slots) same))
           ];
     }
 
 -- a packet that ends no set: its bytes arrive
-pub adds_bytes : (coded pid : ℕ) (pages : Pages) (loads : List WriteLoad) (slots : List ℕ) (painted : ℕ → ℕ)
-    (entry : Entry) (slot number i : ℕ) (before : List (List ℕ)) (left : List Piece)
-    (at : Piecewise coded pid pages loads slots entry slot number i before left)
-    → AreSlots loads slots → Stands coded pid pages loads slots entry slot number i before left at
+pub adds_bytes : (hearing : Hearing) (place : Place) (left : List Piece)
+    (at : Piecewise hearing place left) → Stands hearing place left at
     → 1 ≤ length at.piece.bytes → 1 ≤ length (at.pieces ++ all_pieces at.units)
-    → reverse (arrived_in itself slot (length at.piece.bytes) ++ [])
-    ++ E loads slots painted entry slot ≡ E loads slots painted entry (slot + 1)
-adds_bytes coded pid pages loads slots painted entry slot number i before left at are stands some more =
+    → reverse (arrived_in itself place.slot (length at.piece.bytes) ++ [])
+    ++ E hearing place.slot ≡ E hearing (place.slot + 1)
+adds_bytes hearing place left at stands some more =
     let many = stands.many in
-    let next : suc slot ≡ slot + 1 = omega arith in
-    ap (λ calls. reverse (calls ++ []) ++ E loads slots painted entry slot)
-    (some_arrive slot (length at.piece.bytes) some)
-    ∙ ap (λ bytes. Arrived slot bytes ∷ E loads slots painted entry slot) (sym stands.payload)
-    ∙ sym (packet_adds loads slots painted entry i at.k slot are stands.stands (omega arith))
-    ∙ ap (E loads slots painted entry) next
+    let next : suc place.slot ≡ place.slot + 1 = omega arith in
+    ap (λ calls. reverse (calls ++ []) ++ E hearing place.slot)
+    (some_arrive place.slot (length at.piece.bytes) some)
+    ∙ ap (λ bytes. Arrived place.slot bytes ∷ E hearing place.slot) (sym stands.payload)
+    ∙ sym (packet_adds hearing.loads hearing.slots hearing.painted hearing.entry place.set at.course.k place.slot
+    hearing.are stands.stands (omega arith))
+    ∙ ap (E hearing) next
 
 -- a packet that ends a set: its bytes arrive, and the set is whole
-pub adds_set : (coded pid : ℕ) (pages : Pages) (loads : List WriteLoad) (slots : List ℕ) (painted : ℕ → ℕ)
-    (entry : Entry) (slot number i : ℕ) (before : List (List ℕ)) (left : List Piece)
-    (at : Piecewise coded pid pages loads slots entry slot number i before left)
-    → AreSlots loads slots → Stands coded pid pages loads slots entry slot number i before left at
+pub adds_set : (hearing : Hearing) (place : Place) (left : List Piece)
+    (at : Piecewise hearing place left) → Stands hearing place left at
     → 1 ≤ length at.piece.bytes → length (at.pieces ++ all_pieces at.units) ≡ 0
-    → (calls : List (List Call)) → 1 ≤ length calls → AreLeft loads painted entry i calls
+    → (calls : List (List Call)) → 1 ≤ length calls → AreLeft hearing.loads hearing.painted hearing.entry place.set
+    calls
     → reverse
-    (arrived_in itself slot (length at.piece.bytes) ++ flat_map (λ (calls : List Call). calls) (take 1 calls))
-    ++ E loads slots painted entry slot ≡ E loads slots painted entry (slot + 1)
-adds_set coded pid pages loads slots painted entry slot number i before left at are stands some last [] any h =
+    (arrived_in itself place.slot (length at.piece.bytes) ++ flat_map (λ (calls : List Call). calls) (take 1 calls))
+    ++ E hearing place.slot ≡ E hearing (place.slot + 1)
+adds_set hearing place left at stands some last [] any h =
     absurd (omega arith)
-adds_set coded pid pages loads slots painted entry slot number i before left at are stands some last (own ∷ calls) any
+adds_set hearing place left at stands some last (own ∷ calls) any
     h =
     let many = stands.many in
-    let next : suc slot ≡ slot + 1 = omega arith in
-    let same : i + 0 ≡ i = omega arith in
-    let first : own ≡ SetWhole (heard_load loads painted entry i) ∷ [] =
-    h 0 (omega arith) ∙ ap (λ n. SetWhole (heard_load loads painted entry n) ∷ []) same in
-    ap (λ calls. reverse (calls ++ (own ++ [])) ++ E loads slots painted entry slot)
-    (some_arrive slot (length at.piece.bytes) some)
-    ∙ ap (λ own. reverse (Arrived slot (length at.piece.bytes) ∷ (own ++ [])) ++ E loads slots painted entry slot)
+    let next : suc place.slot ≡ place.slot + 1 = omega arith in
+    let same : place.set + 0 ≡ place.set = omega arith in
+    let first : own ≡ SetWhole (heard_load hearing.loads hearing.painted hearing.entry place.set) ∷ [] =
+    h 0 (omega arith) ∙ ap (λ n. SetWhole (heard_load hearing.loads hearing.painted hearing.entry n) ∷ []) same in
+    ap (λ calls. reverse (calls ++ (own ++ [])) ++ E hearing place.slot)
+    (some_arrive place.slot (length at.piece.bytes) some)
+    ∙ ap (λ own. reverse (Arrived place.slot (length at.piece.bytes) ∷ (own ++ [])) ++ E hearing place.slot)
     first
-    ∙ ap (λ bytes. SetWhole (heard_load loads painted entry i) ∷ Arrived slot bytes
-    ∷ E loads slots painted entry slot) (sym stands.payload)
-    ∙ sym (last_adds loads slots painted entry i at.k slot are stands.stands (omega arith))
-    ∙ ap (E loads slots painted entry) next
+    ∙ ap (λ bytes. SetWhole (heard_load hearing.loads hearing.painted hearing.entry place.set) ∷ Arrived place.slot
+    bytes
+    ∷ E hearing place.slot) (sym stands.payload)
+    ∙ sym (last_adds hearing.loads hearing.slots hearing.painted hearing.entry place.set at.course.k place.slot
+    hearing.are stands.stands (omega arith))
+    ∙ ap (E hearing) next
 
 -- the same calls are left, and all but the first
 pub same_left : (loads : List WriteLoad) (painted : ℕ → ℕ) (entry : Entry) (i : ℕ) (calls : List (List Call))
@@ -226,63 +235,63 @@ one_less loads painted entry i (first ∷ calls) h =
 
 -- ---- a piece that is not its unit's last
 
-pub inner_step : (coded pid : ℕ) (pages : Pages) (loads : List WriteLoad) (slots : List ℕ) (painted : ℕ → ℕ)
-    (entry : Entry) (slot number i : ℕ) (before : List (List ℕ)) (left : List Piece) → IsFree pid
-    → AreSlots loads slots
-    → (at : Piecewise coded pid pages loads slots entry slot number i before left)
-    → slice_index slots number ≡ slot → (next : Piece) (pieces : List Piece) → at.pieces ≡ next ∷ pieces
-    → Step coded pid pages loads slots painted entry slot number i before at.piece
-    (at.pieces ++ (all_pieces at.units ++ all_pieces (units_in at.groups)))
-inner_step coded pid pages loads slots painted entry slot number i before left free are at here next pieces more =
+pub inner_step : (hearing : Hearing) (place : Place) (left : List Piece)
+    → (at : Piecewise hearing place left)
+    → slice_index hearing.slots place.number ≡ place.slot → (next : Piece) (pieces : List Piece) → at.pieces ≡ next
+    ∷ pieces
+    → Step hearing place at.piece
+    (at.pieces ++ (all_pieces at.units ++ all_pieces (units_in at.course.groups)))
+inner_step hearing place left at here next pieces more =
     let goes = at.goes in
-    let stands = stands_here coded pid pages loads slots entry slot number i before left at here in
+    let stands = stands_here hearing place left at here in
     let rest : ArePiecesOf at.start at.front (at.piece ∷ next ∷ pieces) at.unit =
     subst (λ (found : List Piece). ArePiecesOf at.start at.front (at.piece ∷ found) at.unit) more at.rest in
     let is : IsPiece at.piece = rest.0 in
     let some = bytes_left (at.front ++ at.piece.bytes) next pieces at.unit rest.2 in
-    let ready : IsReady at.piece.starts (hand_after pid coded before) at.front =
-    subst (λ (flag : Bool). IsReady flag (hand_after pid coded before) at.front) (sym rest.1) at.ready in
-    let packet = packet_of pid number at.piece in
-    let taken = (says pid number at.piece free is).taken in
+    let ready : IsReady at.piece.starts (hand_after hearing.pid hearing.coded place.before) at.front =
+    subst (λ (flag : Bool). IsReady flag (hand_after hearing.pid hearing.coded place.before) at.front) (sym rest.1)
+    at.ready in
+    let packet = packet_of hearing.pid place.number at.piece in
+    let taken = (says hearing.pid place.number at.piece hearing.free is).taken in
     let brings =
-    piece_brings pid coded number before at.piece at.front some.0 free is goes.follows ready
-    (subst (IsUnit coded) some.1 at.whole) some.2 in
+    piece_brings hearing.pid hearing.coded place.number place.before at.piece at.front some.0 hearing.free is
+    goes.follows ready
+    (subst (IsUnit hearing.coded) some.1 at.whole) some.2 in
     let came =
-    no_unit_more coded pid pages (length at.piece.bytes) before packet (Some (at.front ++ at.piece.bytes))
-    (Some (number % 16)) at.sets at.set at.u goes.came taken brings in
-    let inside = slice_inside at.u at.set.units at.one at.found in
-    let apart = front_of_apart at.sets at.set at.later goes.apart in
+    no_unit_more hearing.coded hearing.pid hearing.pages (length at.piece.bytes) place.before packet
+    (Some (at.front ++ at.piece.bytes))
+    (Some (place.number % 16)) at.course.sets at.course.set at.course.u goes.came taken brings in
+    let inside = slice_inside at.course.u at.course.set.units at.one at.found in
+    let apart = front_of_apart at.course.sets at.course.set at.course.later goes.apart in
     let many : length (at.pieces ++ all_pieces at.units) ≡ suc (length (pieces ++ all_pieces at.units)) =
     ap (λ found. length (found ++ all_pieces at.units)) more in
     record {
       plain =
-          plain_piece coded pid pages (length at.piece.bytes) before packet (Some (at.front ++ at.piece.bytes))
-          (Some (number % 16)) brings;
+          plain_piece hearing.coded hearing.pid hearing.pages (length at.piece.bytes) place.before packet
+          (Some (at.front ++ at.piece.bytes))
+          (Some (place.number % 16)) brings;
       count = 0;
       counted =
-          count_is coded pid pages before packet at.sets []
-          (sets_so_far coded pid pages before at.sets at.set at.u goes.came goes.all goes.is apart inside)
-          (sets_so_far coded pid pages (before ++ packet ∷ []) at.sets at.set at.u came goes.all goes.is apart
-          inside ∙ ap (map delivered) (sym (append-nil at.sets)));
+          count_is hearing.coded hearing.pid hearing.pages place.before packet at.course.sets []
+          (sets_so_far hearing.coded hearing.pid hearing.pages place.before at.course.sets at.course.set at.course.u
+          goes.came goes.all goes.is apart inside)
+          (sets_so_far hearing.coded hearing.pid hearing.pages (place.before ++ packet ∷ []) at.course.sets
+          at.course.set at.course.u came goes.all goes.is apart
+          inside ∙ ap (map delivered) (sym (append-nil at.course.sets)));
       adds =
-          λ calls enough h. adds_bytes coded pid pages loads slots painted entry slot number i before left at are
+          λ calls enough h. adds_bytes hearing place left at
           stands is.0 (omega (arith, many));
-      next = i;
-      left_behind = same_left loads painted entry i;
+      next = place.set;
+      left_behind = same_left hearing.loads hearing.painted hearing.entry place.set;
       onward = goes_on (record {
-        k = suc at.k;
-        sets = at.sets;
-        set = at.set;
-        u = at.u;
-        groups = at.groups;
-        later = at.later;
+        course = one_further at.course;
         goes = record {
           inside = goes.inside;
           numbered = (let same = goes.numbered in omega (arith, same));
           begun = goes.begun;
           counted = (let low = goes.counted in omega arith);
           passed = stands.passed_here;
-          follows = inr (number % 16, brings.counter_behind, omega arith);
+          follows = inr (place.number % 16, brings.counter_behind, omega arith);
           came = came;
           all = goes.all;
           is = goes.is;
@@ -304,6 +313,6 @@ inner_step coded pid pages loads slots painted entry slot number i before left f
         units_are = at.units_are;
         units_whole = at.units_whole;
         own = stands.own_left ∙ ap (λ found. map bytes_in (found ++ all_pieces at.units)) more;
-        left_is = ap (λ found. found ++ (all_pieces at.units ++ all_pieces (units_in at.groups))) more;
+        left_is = ap (λ found. found ++ (all_pieces at.units ++ all_pieces (units_in at.course.groups))) more;
       });
     }

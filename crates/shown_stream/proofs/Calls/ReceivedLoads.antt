@@ -12,7 +12,6 @@ use Rattle.std.proofs.lemmas.List.{get_or-drop, reverse-append, reverse-reverse}
 use Rattle.sub_base.specs.Profile.{profile_of}
 use Rattle.sub_base.specs.declared.load.WriteLoad.{WriteLoad}
 use Rattle.sub_base.specs.declared.profile.Profile.{Profile}
-use Rattle.sub_base.specs.declared.profile.ProfileName.{ProfileName}
 use Rattle.cue_list.specs.declared.epoch.Epoch.{Epoch}
 use Rattle.cue_list.specs.declared.script.Script.{Script}
 use Rattle.page_epoch.specs.declared.planned_set.PlannedSet.{PlannedSet}
@@ -25,7 +24,7 @@ use Rattle.decoder_model.specs.Readings.{Reading, AreDeliveriesRead}
 use Rattle.decoder_model.specs.Sets.{Delivery, sets_of}
 use Rattle.decoder_model.specs.Streams.{entered_at}
 use Rattle.scheduled_level_laws.specs.EnteredCalls.{Entry, planned_painting}
-use Rattle.shown_stream.specs.Compiled.{IsCompiledTo, all_units}
+use Rattle.shown_stream.specs.Compiled.{IsCompiledTo, all_units, Compiling}
 use Rattle.shown_stream.specs.SentSets.{sent_sets, first_times_from}
 use Rattle.shown_stream.specs.Shows.{IsAnchorOf}
 use Rattle.received_level_laws.specs.StreamCalls.{set_call, set_calls}
@@ -138,25 +137,25 @@ read_first (suc n) (delivery ∷ deliveries) (one ∷ past) h = (h.0, read_first
 -- ---- all sets that come
 
 -- what a receiver has got in the end of a compiled stream, in order, and how long its sets are painted
-pub record AreAllHeard (name : ProfileName) (pid page : ℕ) (script : Script) (bytes : List ℕ)
-    (compiled : IsCompiledTo name pid page script bytes) (known : ArePackets name pid page script bytes compiled)
+pub record AreAllHeard (compiling : Compiling) (bytes : List ℕ)
+    (compiled : IsCompiledTo compiling bytes) (known : ArePackets compiling bytes compiled)
     (loads_are : All IsLoad compiled.loads) (missed anchor first : ℕ) : Type 0 where
   pub received : List (Delivery Reading)
   pub read : AreDeliveriesRead
-      (map delivered (sets_behind (cut_units name pid page script bytes compiled known loads_are missed) known.sent))
+      (map delivered (sets_behind (cut_units compiling bytes compiled known loads_are missed) known.sent))
       received
   pub painted : (j : ℕ) → j < length received
-      → painting_in (get_or (set_calls (profile_of name) anchor received) j [])
+      → painting_in (get_or (set_calls (profile_of compiling.profile) anchor received) j [])
       ≡ heard_painting compiled.loads first
-      ((compiled_entry name pid page script bytes compiled known loads_are missed).set + j)
+      ((compiled_entry compiling bytes compiled known loads_are missed).set + j)
 
-pub all_heard : (name : ProfileName) (pid page : ℕ) (script : Script) (bytes : List ℕ) → IsFree pid
-    → (compiled : IsCompiledTo name pid page script bytes) (known : ArePackets name pid page script bytes compiled)
+pub all_heard : (compiling : Compiling) (bytes : List ℕ) → IsFree compiling.pid
+    → (compiled : IsCompiledTo compiling bytes) (known : ArePackets compiling bytes compiled)
     (loads_are : All IsLoad compiled.loads)
     → (missed anchor : ℕ) → IsAnchorOf (first_times_from missed (sent_sets compiled.table compiled.sets)) anchor
-    → (late : IsEnteredLate name pid page script bytes compiled known.sent missed)
-    → AreAllHeard name pid page script bytes compiled known loads_are missed anchor late.first
-all_heard name pid page script bytes free compiled known loads_are missed anchor suits late = record {
+    → (late : IsEnteredLate compiling bytes compiled known.sent missed)
+    → AreAllHeard compiling bytes compiled known loads_are missed anchor late.first
+all_heard compiling bytes free compiled known loads_are missed anchor suits late = record {
   received = reverse past;
   read =
       subst (λ (found : List (Delivery (List ℕ))). AreDeliveriesRead found (reverse past)) (sym late.come ∙ same)
@@ -171,19 +170,20 @@ all_heard name pid page script bytes free compiled known loads_are missed anchor
 }
   where
     profile : Profile
-    profile = profile_of name
+    profile = profile_of compiling.profile
 
     loads : List WriteLoad
     loads = compiled.loads
 
     entry : Entry
-    entry = compiled_entry name pid page script bytes compiled known loads_are missed
+    entry = compiled_entry compiling bytes compiled known loads_are missed
 
-    parts : ComesInParts profile script compiled.table compiled.sets known.sent late.rest late.first missed anchor
+    parts : ComesInParts profile compiling.script compiled.table compiled.sets known.sent late.rest late.first missed
+        anchor
     parts =
-        comes_in_parts profile pid (only page) script compiled.table compiled.sets
-        (packets_in name pid page script bytes compiled) known.sent
-        (compiled_plan name pid page script bytes free compiled known) missed anchor
+        comes_in_parts profile compiling.pid (only compiling.page) compiling.script compiled.table compiled.sets
+        (packets_in compiling bytes compiled) known.sent
+        (compiled_plan compiling bytes free compiled known) missed anchor
         suits late
 
     past : List (Delivery Reading)
@@ -192,13 +192,14 @@ all_heard name pid page script bytes free compiled known loads_are missed anchor
     begun : List (Delivery Reading)
     begun = parts.begun.past
 
-    same : sets_of profile.coded pid (only page) true
-        (entered_at missed (packets_in name pid page script bytes compiled))
+    same : sets_of profile.coded compiling.pid (only compiling.page) true
+        (entered_at missed (packets_in compiling bytes compiled))
         ≡ map delivered
-        (sets_behind (cut_units name pid page script bytes compiled known loads_are missed) known.sent)
+        (sets_behind (cut_units compiling bytes compiled known loads_are missed) known.sent)
     same =
-        let is = compiled_stream name pid page script bytes compiled known loads_are in
-        late_sets profile.coded pid (only page) missed (all_units compiled.units) known.sent compiled.table.slots free
+        let is = compiled_stream compiling bytes compiled known loads_are in
+        late_sets profile.coded compiling.pid (only compiling.page) missed (all_units compiled.units) known.sent
+        compiled.table.slots free
         is.whole known.are.carry known.apart is.pieces is.ahead
 
     cut_calls : List (List Call)
@@ -218,7 +219,7 @@ all_heard name pid page script bytes free compiled known loads_are missed anchor
     cut = zip_length (λ (one : TimedSet) found. painting_in found ≡ 0) late.rest cut_calls parts.begun.painted
 
     entered : entry.set + length late.rest ≡ late.first
-    entered = entry_before name pid page script bytes free compiled known loads_are missed late
+    entered = entry_before compiling bytes free compiled known loads_are missed late
 
     by : (j : ℕ) → j < length (cut_calls ++ more_calls)
         → painting_in (get_or (cut_calls ++ more_calls) j []) ≡ heard_painting loads late.first (entry.set + j)
@@ -237,9 +238,9 @@ all_heard name pid page script bytes free compiled known loads_are missed anchor
               ∙ ap painting_in
               (sym (get_or-drop (length cut_calls) (cut_calls ++ more_calls) k [])
               ∙ ap (λ found. get_or found k []) (drop-append_seam cut_calls more_calls))
-              ∙ loads_painted script (drop late.first compiled.sets) more_calls (drop late.first loads)
+              ∙ loads_painted compiling.script (drop late.first compiled.sets) more_calls (drop late.first loads)
               parts.come.painted
-              (zip_behind (IsSetLoad script) late.first compiled.sets loads compiled.planned.asked) k within
+              (zip_behind (IsSetLoad compiling.script) late.first compiled.sets loads compiled.planned.asked) k within
               ∙ ap (λ (load : WriteLoad). load.load.painted) (get_or-drop late.first loads k no_load)
               ∙ ap (planned_painting loads) place
               ∙ sym (heard_from loads late.first (entry.set + j) (omega (arith, place)))
@@ -266,16 +267,16 @@ drop_times (suc first) (set ∷ sets) j =
     ∙ ap (λ n. get_or (pts_of (set ∷ sets)) n 0) same
 
 -- what is received up to a packet comes first of all that is received
-pub first_of_all : (name : ProfileName) (pid page : ℕ) (script : Script) (bytes : List ℕ)
-    (compiled : IsCompiledTo name pid page script bytes) (known : ArePackets name pid page script bytes compiled)
+pub first_of_all : (compiling : Compiling) (bytes : List ℕ)
+    (compiled : IsCompiledTo compiling bytes) (known : ArePackets compiling bytes compiled)
     (loads_are : All IsLoad compiled.loads)
     → (missed anchor first : ℕ) (planned : List PlannedSet) (past : List (Delivery Reading))
-    (all : AreAllHeard name pid page script bytes compiled known loads_are missed anchor first)
-    → (some : AreWholeUpTo (profile_of name) anchor planned
-    (sets_behind (cut_units name pid page script bytes compiled known loads_are missed) known.sent) past)
+    (all : AreAllHeard compiling bytes compiled known loads_are missed anchor first)
+    → (some : AreWholeUpTo (profile_of compiling.profile) anchor planned
+    (sets_behind (cut_units compiling bytes compiled known loads_are missed) known.sent) past)
     → reverse past ≡ take some.count all.received
-first_of_all name pid page script bytes compiled known loads_are missed anchor first planned past all some =
-    let behind = sets_behind (cut_units name pid page script bytes compiled known loads_are missed) known.sent in
+first_of_all compiling bytes compiled known loads_are missed anchor first planned past all some =
+    let behind = sets_behind (cut_units compiling bytes compiled known loads_are missed) known.sent in
     same_past (map delivered (take some.count behind)) (reverse past) (take some.count all.received) some.read
     (subst (λ (found : List (Delivery (List ℕ))). AreDeliveriesRead found (take some.count all.received))
     (take-map delivered some.count behind) (read_first some.count (map delivered behind) all.received all.read))

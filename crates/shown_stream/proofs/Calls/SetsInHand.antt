@@ -217,30 +217,56 @@ slice_inside k [] x found = absurd (cc)
 slice_inside zero (first ∷ xs) x found = omega arith
 slice_inside (suc k) (first ∷ xs) x found = let more = slice_inside k xs x found in omega arith
 
--- what came with the next unit of the set, however it goes on
-record UnitMore (coded pid : ℕ) (pages : Pages) (before : List (List ℕ)) (packet : List ℕ) (sets : List TimedSet)
-    (set : TimedSet) (k : ℕ) : Type 0 where
-  sound : AllByRecursion (λ packet. packet_fault pid packet ≡ None) (before ++ packet ∷ [])
-  come : AllZip IsArrivalOf (arrivals_of coded pid pages (before ++ packet ∷ []))
-      (timed_units sets ++ map (timed set.time) (take (suc k) set.units))
-  placed : AllZip (IsPlaced set.time) (last_run (reverse (arrivals_of coded pid pages (before ++ packet ∷ []))))
-      (take (suc k) set.units)
+-- a packet behind others, by which these sets came and k units of another one
+pub record Following : Type 0 where
+  pub coded : ℕ
+  pub pid : ℕ
+  pub pages : Pages
+  pub before : List (List ℕ)
+  pub packet : List ℕ
+  pub sets : List TimedSet
+  pub set : TimedSet
+  pub k : ℕ
 
-unit_more : (coded pid : ℕ) (pages : Pages) (bytes : ℕ) (before : List (List ℕ)) (packet unit_bytes : List ℕ)
-    (hand : Option (List ℕ)) (counter : Option ℕ) (sets : List TimedSet) (set : TimedSet) (k : ℕ)
-    (one : SetUnit) → HaveCome coded pid pages before sets set k
-    → packet_fault pid packet ≡ None → Brings pid coded before packet bytes (Some unit_bytes) hand counter
-    → slice_get set.units k ≡ Some one → IsUnitOf pages unit_bytes (timed set.time one)
-    → UnitMore coded pid pages before packet sets set k
-unit_more coded pid pages bytes before packet unit_bytes hand counter sets set k one came taken brings found is =
-    let arrivals = arrivals_of coded pid pages before in
+-- the packet ends the next unit of that set
+pub record EndsNext (next : Following) : Type 0 where
+  pub bytes : ℕ
+  pub unit : List ℕ
+  pub hand : Option (List ℕ)
+  pub counter : Option ℕ
+  pub one : SetUnit
+  pub came : HaveCome next.coded next.pid next.pages next.before next.sets next.set next.k
+  pub taken : packet_fault next.pid next.packet ≡ None
+  pub brings : Brings next.pid next.coded next.before next.packet bytes (Some unit) hand counter
+  pub found : slice_get next.set.units next.k ≡ Some one
+  pub is : IsUnitOf next.pages unit (timed next.set.time one)
+
+abbrev arrivals_behind : Following → List Arrival
+arrivals_behind next = arrivals_of next.coded next.pid next.pages (next.before ++ next.packet ∷ [])
+
+-- what came with the next unit of the set, however it goes on
+record UnitMore (next : Following) : Type 0 where
+  sound : AllByRecursion (λ packet. packet_fault next.pid packet ≡ None) (next.before ++ next.packet ∷ [])
+  come : AllZip IsArrivalOf (arrivals_behind next)
+      (timed_units next.sets ++ map (timed next.set.time) (take (suc next.k) next.set.units))
+  placed : AllZip (IsPlaced next.set.time) (last_run (reverse (arrivals_behind next)))
+      (take (suc next.k) next.set.units)
+
+unit_more : (next : Following) → EndsNext next → UnitMore next
+unit_more next ends =
+    let set = next.set in
+    let sets = next.sets in
+    let k = next.k in
+    let one = ends.one in
+    let arrivals = arrivals_of next.coded next.pid next.pages next.before in
     let found_run = last_run (reverse arrivals) in
-    let place = length before in
+    let place = length next.before in
     let new = unit_of place set.time one in
-    let more : arrivals_of coded pid pages (before ++ packet ∷ []) ≡ arrivals ++ unit new ∷ [] =
-    arrivals_with coded pid pages bytes before packet (Some unit_bytes) hand counter came.sound taken brings
-    ∙ ap (λ arrival. arrivals ++ arrival ∷ []) (arrives pages place unit_bytes (timed set.time one) is) in
-    let units : take (suc k) set.units ≡ take k set.units ++ one ∷ [] = take_next k set.units one found in
+    let more : arrivals_behind next ≡ arrivals ++ unit new ∷ [] =
+    arrivals_with next.coded next.pid next.pages ends.bytes next.before next.packet (Some ends.unit) ends.hand
+    ends.counter ends.came.sound ends.taken ends.brings
+    ∙ ap (λ arrival. arrivals ++ arrival ∷ []) (arrives next.pages place ends.unit (timed set.time one) ends.is) in
+    let units : take (suc k) set.units ≡ take k set.units ++ one ∷ [] = take_next k set.units one ends.found in
     let all : timed_units sets
     ++ map (timed set.time) (take (suc k) set.units)
     ≡ (timed_units sets ++ map (timed set.time) (take k set.units)) ++ timed set.time one ∷ [] =
@@ -251,58 +277,48 @@ unit_more coded pid pages bytes before packet unit_bytes hand counter sets set k
     let run_is : last_run (reverse (arrivals ++ unit new ∷ [])) ≡ of_time set.time found_run ++ new ∷ [] =
     ap last_run (reverse-append arrivals (unit new ∷ [])) in
     record {
-      sound = sound_push pid before packet came.sound taken;
+      sound = sound_push next.pid next.before next.packet ends.came.sound ends.taken;
       come =
           subst (λ (seen : List Arrival). AllZip IsArrivalOf seen
           (timed_units sets ++ map (timed set.time) (take (suc k) set.units))) (sym more)
           (subst (AllZip IsArrivalOf (arrivals ++ unit new ∷ [])) (sym all)
           (zip_push IsArrivalOf arrivals (timed_units sets ++ map (timed set.time) (take k set.units)) (unit new)
-          (timed set.time one) came.come (place, refl)));
+          (timed set.time one) ends.came.come (place, refl)));
       placed =
           subst (λ (seen : List Arrival). AllZip (IsPlaced set.time) (last_run (reverse seen))
           (take (suc k) set.units)) (sym more)
           (subst (λ (seen : List PesUnit). AllZip (IsPlaced set.time) seen (take (suc k) set.units)) (sym run_is)
           (subst (AllZip (IsPlaced set.time) (of_time set.time found_run ++ new ∷ [])) (sym units)
           (zip_push (IsPlaced set.time) (of_time set.time found_run) (take k set.units) new one
-          (kept_of_run coded set.time found_run (take k set.units) came.last) (place, refl))));
+          (kept_of_run next.coded set.time found_run (take k set.units) ends.came.last) (place, refl))));
     }
 
 -- a packet that ends the next unit of the set, not the last
-pub next_unit_more : (coded pid : ℕ) (pages : Pages) (bytes : ℕ) (before : List (List ℕ))
-    (packet unit_bytes : List ℕ) (hand : Option (List ℕ)) (counter : Option ℕ) (sets : List TimedSet)
-    (set : TimedSet) (k : ℕ) (one : SetUnit) → HaveCome coded pid pages before sets set k
-    → packet_fault pid packet ≡ None → Brings pid coded before packet bytes (Some unit_bytes) hand counter
-    → slice_get set.units k ≡ Some one → IsUnitOf pages unit_bytes (timed set.time one)
-    → HaveCome coded pid pages (before ++ packet ∷ []) sets set (suc k)
-next_unit_more coded pid pages bytes before packet unit_bytes hand counter sets set k one came taken brings found is =
-    let more =
-    unit_more coded pid pages bytes before packet unit_bytes hand counter sets set k one came taken brings found is
-    in
-    let inside = slice_inside k set.units one found in
+pub next_unit_more : (next : Following) → EndsNext next
+    → HaveCome next.coded next.pid next.pages (next.before ++ next.packet ∷ []) next.sets next.set (suc next.k)
+next_unit_more next ends =
+    let more = unit_more next ends in
+    let set = next.set in
+    let inside = slice_inside next.k set.units ends.one ends.found in
     record {
       sound = more.sound;
       come = more.come;
       last =
-          run_of_some coded set.time (last_run (reverse (arrivals_of coded pid pages (before ++ packet ∷ []))))
-          (take (suc k) set.units) (omega (arith, length-take-le (suc k) set.units (omega arith))) more.placed;
+          run_of_some next.coded set.time (last_run (reverse (arrivals_behind next))) (take (suc next.k) set.units)
+          (omega (arith, length-take-le (suc next.k) set.units (omega arith))) more.placed;
     }
 
 -- a packet that ends the last unit of the set: the set is whole, and the next one, of another time, is waited for
-pub last_unit_more : (coded pid : ℕ) (pages : Pages) (bytes : ℕ) (before : List (List ℕ))
-    (packet unit_bytes : List ℕ) (hand : Option (List ℕ)) (counter : Option ℕ) (sets : List TimedSet)
-    (set next : TimedSet) (k : ℕ) (one : SetUnit) → HaveCome coded pid pages before sets set k
-    → packet_fault pid packet ≡ None → Brings pid coded before packet bytes (Some unit_bytes) hand counter
-    → slice_get set.units k ≡ Some one → IsUnitOf pages unit_bytes (timed set.time one)
-    → IsTimedSet coded pages set → suc k ≡ length set.units
-    → eqb set.time next.time ≡ false
-    → HaveCome coded pid pages (before ++ packet ∷ []) (sets ++ set ∷ []) next 0
-last_unit_more coded pid pages bytes before packet unit_bytes hand counter sets set next k one came taken brings found
-    is timed_set all other =
-    let more =
-    unit_more coded pid pages bytes before packet unit_bytes hand counter sets set k one came taken brings found is
-    in
+pub last_unit_more : (next : Following) → EndsNext next → IsTimedSet next.coded next.pages next.set
+    → suc next.k ≡ length next.set.units → (other : TimedSet) → eqb next.set.time other.time ≡ false
+    → HaveCome next.coded next.pid next.pages (next.before ++ next.packet ∷ []) (next.sets ++ next.set ∷ []) other 0
+last_unit_more next ends timed_set all other apart =
+    let more = unit_more next ends in
+    let set = next.set in
+    let sets = next.sets in
+    let k = next.k in
     let whole : take (suc k) set.units ≡ set.units = take_all (suc k) set.units (omega arith) in
-    let found_run = last_run (reverse (arrivals_of coded pid pages (before ++ packet ∷ []))) in
+    let found_run = last_run (reverse (arrivals_behind next)) in
     let placed : AllZip (IsPlaced set.time) found_run set.units =
     subst (AllZip (IsPlaced set.time) found_run) whole more.placed in
     let units : timed_units (sets ++ set ∷ []) ++ [] ≡ timed_units sets
@@ -313,11 +329,10 @@ last_unit_more coded pid pages bytes before packet unit_bytes hand counter sets 
     (append-nil (map (timed set.time) set.units) ∙ ap (map (timed set.time)) (sym whole)) in
     record {
       sound = more.sound;
-      come = subst (AllZip IsArrivalOf (arrivals_of coded pid pages (before ++ packet ∷ []))) (sym units) more.come;
+      come = subst (AllZip IsArrivalOf (arrivals_behind next)) (sym units) more.come;
       last = (
-        none_in_hand coded pages set found_run timed_set placed,
-        none_of_time set.time next.time found_run set.units
-            other placed,
+        none_in_hand next.coded next.pages set found_run timed_set placed,
+        none_of_time set.time other.time found_run set.units apart placed,
       );
     }
 
@@ -368,20 +383,19 @@ plain_piece coded pid pages bytes before packet hand counter brings =
     plain_by coded pid pages bytes before packet None hand counter None brings refl refl refl
 
 -- a packet that ends the next unit of a set
-pub plain_last : (coded pid : ℕ) (pages : Pages) (bytes : ℕ) (before : List (List ℕ))
-    (packet unit_bytes : List ℕ) (hand : Option (List ℕ)) (counter : Option ℕ) (sets : List TimedSet)
-    (set : TimedSet) (k : ℕ) (one : SetUnit) → HaveCome coded pid pages before sets set k
-    → Brings pid coded before packet bytes (Some unit_bytes) hand counter → slice_get set.units k ≡ Some one
-    → IsUnitOf pages unit_bytes (timed set.time one) → IsTimedSet coded pages set
-    → IsPlain coded pid pages before packet bytes
-plain_last coded pid pages bytes before packet unit_bytes hand counter sets set k one came brings found is timed_set =
-    let found_run = last_run (reverse (arrivals_of coded pid pages before)) in
-    plain_by coded pid pages bytes before packet (Some unit_bytes) hand counter
-    (Some (unit (unit_of (length before) set.time one))) brings
-    (ap Some (arrives pages (length before) unit_bytes (timed set.time one) is))
-    (none_ready coded (length before) set.time found_run (take k set.units) one came.last)
-    (front_open coded pages set k (of_time set.time found_run) timed_set (slice_inside k set.units one found)
-    (kept_of_run coded set.time found_run (take k set.units) came.last))
+pub plain_last : (next : Following) (ends : EndsNext next) → IsTimedSet next.coded next.pages next.set
+    → IsPlain next.coded next.pid next.pages next.before next.packet ends.bytes
+plain_last next ends timed_set =
+    let set = next.set in
+    let place = length next.before in
+    let found_run = last_run (reverse (arrivals_of next.coded next.pid next.pages next.before)) in
+    plain_by next.coded next.pid next.pages ends.bytes next.before next.packet (Some ends.unit) ends.hand ends.counter
+    (Some (unit (unit_of place set.time ends.one))) ends.brings
+    (ap Some (arrives next.pages place ends.unit (timed set.time ends.one) ends.is))
+    (none_ready next.coded place set.time found_run (take next.k set.units) ends.one ends.came.last)
+    (front_open next.coded next.pages set next.k (of_time set.time found_run) timed_set
+    (slice_inside next.k set.units ends.one ends.found)
+    (kept_of_run next.coded set.time found_run (take next.k set.units) ends.came.last))
 
 -- the calls of such a packet: its bytes, and then those of the sets that come with it
 pub plain_calls : (coded pid : ℕ) (pages : Pages) (slot bytes : ℕ) (before : List (List ℕ)) (packet : List ℕ)

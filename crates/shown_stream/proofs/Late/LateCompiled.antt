@@ -9,7 +9,6 @@ use Rattle.std.proofs.lemmas.List.Sums.{sum_by-cons}
 use Rattle.sub_base.specs.Pace.{pace_of}
 use Rattle.sub_base.specs.Profile.{profile_of}
 use Rattle.sub_base.specs.declared.load.TheConstants.{UNIT_ROOM}
-use Rattle.sub_base.specs.declared.profile.ProfileName.{ProfileName}
 use Rattle.stream_syntax.specs.Segments.{SegmentValue, spelled, IsWritable}
 use Rattle.pes_packets.specs.Units.{IsOneUnit, IsClosed, AreUnits, IsSharedOut}
 use Rattle.pes_packets.proofs.OneSharing.{units_same}
@@ -28,7 +27,7 @@ use Rattle.sent_sets.proofs.SetEnds.{ended_set, none_behind_end}
 use Rattle.sent_sets.proofs.SetsCome.{all_ended, all_count}
 use Rattle.sent_sets.proofs.Units.{SetUnit, TimedSet, all_segments, IsTimedSet, counted_set, counted_sets}
 use Rattle.sent_sets.proofs.Units as counting
-use Rattle.shown_stream.specs.Compiled.{IsCompiledTo}
+use Rattle.shown_stream.specs.Compiled.{IsCompiledTo, Compiling}
 use Rattle.shown_plan.proofs.Segments.ByPlace.{set_is_named}
 use Rattle.shown_stream.specs.SentPlan.{IsWrittenAs, CarriesSet, AreWithoutPage, HasPageFirst}
 use Rattle.shown_stream.proofs.Late.LatePlaces.{have_as_many}
@@ -322,42 +321,47 @@ all_well [] well = tt
 all_well (set ∷ left) well = (well 0 set refl, all_well left (λ number other found. well (suc number) other found))
 
 -- the sets of a compiled stream are sent for a receiver of its page
-pub compiled_plan : (name : ProfileName) (pid page : ℕ) (script : Script) (bytes : List ℕ) → IsFree pid
-    → (compiled : IsCompiledTo name pid page script bytes)
-    → (known : ArePackets name pid page script bytes compiled)
-    → IsPlanSent (profile_of name).coded pid (only page) (profile_of name) script compiled.table compiled.sets
-    (packets_in name pid page script bytes compiled) known.sent
-compiled_plan name pid page script bytes free compiled known =
-    let coded = (profile_of name).coded in
-    let pace = pace_of script.origin (profile_of name) in
+pub compiled_plan : (compiling : Compiling) (bytes : List ℕ) → IsFree compiling.pid
+    → (compiled : IsCompiledTo compiling bytes)
+    → (known : ArePackets compiling bytes compiled)
+    → IsPlanSent (profile_of compiling.profile).coded compiling.pid (only compiling.page) (profile_of compiling.profile)
+    compiling.script compiled.table compiled.sets
+    (packets_in compiling bytes compiled) known.sent
+compiled_plan compiling bytes free compiled known =
+    let coded = (profile_of compiling.profile).coded in
+    let pace = pace_of compiling.script.origin (profile_of compiling.profile) in
     let sent = known.sent in
     let well =
     all_well compiled.sets
-    (λ number set found. planned_well script (profile_of name) compiled.sets number set compiled.planned.plan
+    (λ number set found. planned_well compiling.script (profile_of compiling.profile) compiled.sets number set
+    compiled.planned.plan
     found) in
-    let are = units_of_all script page compiled.sets compiled.units sent known.are.are well in
+    let are = units_of_all compiling.script compiling.page compiled.sets compiled.units sent known.are.are well in
     let sets =
-    sent_sets_of coded (only page) compiled.loads compiled.units pace compiled.table sent compiled.each
+    sent_sets_of coded (only compiling.page) compiled.loads compiled.units pace compiled.table sent compiled.each
     compiled.sized compiled.schedule known.units known.are.carry known.apart
-    (have_as_many script page compiled.sets compiled.units sent known.are.are) in
+    (have_as_many compiling.script compiling.page compiled.sets compiled.units sent known.are.are) in
     let same : map counted_set sent ≡ sent =
-    sym (all_counted script compiled.sets sent are)
-    ∙ all_count coded true sent (all_ended coded (only page) true sent known.are.carry.whole) in
-    subst (IsPlanSent coded pid (only page) (profile_of name) script compiled.table compiled.sets
-    (packets_in name pid page script bytes compiled)) same
-    (plan_sent coded pid (only page) (profile_of name) script compiled.loads compiled.units pace compiled.table
+    sym (all_counted compiling.script compiled.sets sent are)
+    ∙ all_count coded true sent (all_ended coded (only compiling.page) true sent known.are.carry.whole) in
+    subst (IsPlanSent coded compiling.pid (only compiling.page) (profile_of compiling.profile) compiling.script
+    compiled.table compiled.sets
+    (packets_in compiling bytes compiled)) same
+    (plan_sent coded compiling.pid (only compiling.page) (profile_of compiling.profile) compiling.script compiled.loads
+    compiled.units pace compiled.table
     compiled.sets sent free known.stream sets compiled.planned.plan are)
 
 -- what a receiver gets of a compiled stream that it enters behind so many packets
-abbrev pub IsEnteredLate : (name : ProfileName) (pid page : ℕ) (script : Script) (bytes : List ℕ)
-    → IsCompiledTo name pid page script bytes → List TimedSet → ℕ → Type 0
-IsEnteredLate name pid page script bytes compiled sent missed =
-    plan.IsEnteredLate (profile_of name).coded pid (only page) script compiled.table compiled.sets
-    (packets_in name pid page script bytes compiled) sent missed
+abbrev pub IsEnteredLate : (compiling : Compiling) (bytes : List ℕ)
+    → IsCompiledTo compiling bytes → List TimedSet → ℕ → Type 0
+IsEnteredLate compiling bytes compiled sent missed =
+    plan.IsEnteredLate (profile_of compiling.profile).coded compiling.pid (only compiling.page) compiling.script
+    compiled.table compiled.sets
+    (packets_in compiling bytes compiled) sent missed
 
-pub compiled_late : (name : ProfileName) (pid page : ℕ) (script : Script) (bytes : List ℕ) → IsFree pid
-    → (compiled : IsCompiledTo name pid page script bytes)
-    → (known : ArePackets name pid page script bytes compiled)
-    → (missed : ℕ) → IsEnteredLate name pid page script bytes compiled known.sent missed
-compiled_late name pid page script bytes free compiled known missed =
-    (compiled_plan name pid page script bytes free compiled known).late missed
+pub compiled_late : (compiling : Compiling) (bytes : List ℕ) → IsFree compiling.pid
+    → (compiled : IsCompiledTo compiling bytes)
+    → (known : ArePackets compiling bytes compiled)
+    → (missed : ℕ) → IsEnteredLate compiling bytes compiled known.sent missed
+compiled_late compiling bytes free compiled known missed =
+    (compiled_plan compiling bytes free compiled known).late missed

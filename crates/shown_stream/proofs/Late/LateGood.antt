@@ -6,12 +6,10 @@ use Rattle.std.proofs.lemmas.List.{length-replicate}
 use Rattle.std.proofs.lemmas.List.Elements.{recursion_from_All}
 use Rattle.sub_base.specs.Pace.{pace_of}
 use Rattle.sub_base.specs.Profile.{profile_of}
-use Rattle.sub_base.specs.declared.profile.ProfileName.{ProfileName}
 use Rattle.stream_syntax.specs.TransportPackets.{null_packet}
-use Rattle.cue_list.specs.declared.script.Script.{Script}
 use Rattle.schedule.specs.Slots.{IsLoad, IsSchedule}
 use Rattle.decoder_model.specs.Streams.{SentSet, entry_set, IsGoodTick}
-use Rattle.shown_stream.specs.Compiled.{all_units, IsCompiledTo}
+use Rattle.shown_stream.specs.Compiled.{all_units, IsCompiledTo, Compiling}
 use Rattle.shown_stream.specs.SentSets.{sent_sets}
 use Rattle.slot_stream.specs.SlotStream.{Piece, packet_of, all_pieces}
 use Rattle.shown_stream.proofs.Sent.CompiledPackets.{packets_in, ArePackets}
@@ -56,13 +54,13 @@ slots_inside pid from number (piece ∷ pieces) (slot ∷ slots) ahead same =
 -- ---- order
 
 -- the sets of a compiled stream stand in order: each has a packet, their places rise, and so do their times
-pub compiled_in_order : (name : ProfileName) (pid page : ℕ) (script : Script) (bytes : List ℕ)
-    (compiled : IsCompiledTo name pid page script bytes) → ArePackets name pid page script bytes compiled
-    → AreInOrder (length (packets_in name pid page script bytes compiled)) (sent_sets compiled.table compiled.sets)
-compiled_in_order name pid page script bytes compiled known =
-    let coded = (profile_of name).coded in
+pub compiled_in_order : (compiling : Compiling) (bytes : List ℕ)
+    (compiled : IsCompiledTo compiling bytes) → ArePackets compiling bytes compiled
+    → AreInOrder (length (packets_in compiling bytes compiled)) (sent_sets compiled.table compiled.sets)
+compiled_in_order compiling bytes compiled known =
+    let coded = (profile_of compiling.profile).coded in
     let loads = compiled.loads in
-    let pace = pace_of script.origin (profile_of name) in
+    let pace = pace_of compiling.script.origin (profile_of compiling.profile) in
     let units = all_units compiled.units in
     let slots = compiled.table.slots in
     let ahead = slots_rise loads (length loads) pace compiled.table compiled.schedule in
@@ -71,37 +69,37 @@ compiled_in_order name pid page script bytes compiled known =
     let some = have_packets loads compiled.units (recursion_from_All IsLoad loads compiled.each) compiled.sized in
     let many : length loads ≡ length compiled.sets =
     as_many loads compiled.units compiled.sized
-    ∙ (count_sets script page compiled.sets compiled.units known.sent known.are.are).1 in
-    sets_in_order script (profile_of name) loads pace compiled.table compiled.sets
-    (length (packets_in name pid page script bytes compiled)) compiled.planned.plan
+    ∙ (count_sets compiling.script compiling.page compiled.sets compiled.units known.sent known.are.are).1 in
+    sets_in_order compiling.script (profile_of compiling.profile) loads pace compiled.table compiled.sets
+    (length (packets_in compiling bytes compiled)) compiled.planned.plan
     (subst (λ (n : ℕ). IsSchedule loads n pace compiled.table) many compiled.schedule)
     (λ i inside. some_bytes coded loads compiled.units compiled.sized some known.units i (omega (arith, many, inside)))
-    (below_more (0 + length (packets_in name pid page script bytes compiled))
-    (length (packets_in name pid page script bytes compiled)) slots (omega arith)
-    (slots_inside pid 0 0 (all_pieces units) slots ahead same))
+    (below_more (0 + length (packets_in compiling bytes compiled))
+    (length (packets_in compiling bytes compiled)) slots (omega arith)
+    (slots_inside compiling.pid 0 0 (all_pieces units) slots ahead same))
 
 -- ---- good ticks
 
 -- from the entry set's time on a tick is good
-pub compiled_good : (name : ProfileName) (pid page : ℕ) (script : Script) (bytes : List ℕ)
-    (compiled : IsCompiledTo name pid page script bytes) → ArePackets name pid page script bytes compiled
+pub compiled_good : (compiling : Compiling) (bytes : List ℕ)
+    (compiled : IsCompiledTo compiling bytes) → ArePackets compiling bytes compiled
     → (missed tick : ℕ) (entry : SentSet)
     → entry_set missed (sent_sets compiled.table compiled.sets) ≡ Some entry → entry.time ≤ tick
     → IsGoodTick (sent_sets compiled.table compiled.sets)
-    (late_sendings missed (packets_in name pid page script bytes compiled)) tick
-compiled_good name pid page script bytes compiled known missed tick entry found come =
-    good_from_entry missed tick (packets_in name pid page script bytes compiled)
-    (sent_sets compiled.table compiled.sets) entry (compiled_in_order name pid page script bytes compiled known)
+    (late_sendings missed (packets_in compiling bytes compiled)) tick
+compiled_good compiling bytes compiled known missed tick entry found come =
+    good_from_entry missed tick (packets_in compiling bytes compiled)
+    (sent_sets compiled.table compiled.sets) entry (compiled_in_order compiling bytes compiled known)
     found come
 
 -- and no other one is
-pub good_compiled : (name : ProfileName) (pid page : ℕ) (script : Script) (bytes : List ℕ)
-    (compiled : IsCompiledTo name pid page script bytes) → ArePackets name pid page script bytes compiled
+pub good_compiled : (compiling : Compiling) (bytes : List ℕ)
+    (compiled : IsCompiledTo compiling bytes) → ArePackets compiling bytes compiled
     → (missed tick : ℕ)
     → IsGoodTick (sent_sets compiled.table compiled.sets)
-    (late_sendings missed (packets_in name pid page script bytes compiled)) tick
+    (late_sendings missed (packets_in compiling bytes compiled)) tick
     → (entry : SentSet) × (entry_set missed (sent_sets compiled.table compiled.sets) ≡ Some entry)
     × (entry.time ≤ tick)
-good_compiled name pid page script bytes compiled known missed tick good =
-    entry_from_good missed tick (packets_in name pid page script bytes compiled)
-    (sent_sets compiled.table compiled.sets) (compiled_in_order name pid page script bytes compiled known) good
+good_compiled compiling bytes compiled known missed tick good =
+    entry_from_good missed tick (packets_in compiling bytes compiled)
+    (sent_sets compiled.table compiled.sets) (compiled_in_order compiling bytes compiled known) good

@@ -9,10 +9,8 @@ use Rattle.sub_base.specs.Pace.{pace_of}
 use Rattle.sub_base.specs.Profile.{profile_of}
 use Rattle.sub_base.specs.declared.load.WriteLoad.{WriteLoad}
 use Rattle.sub_base.specs.declared.profile.Profile.{Profile}
-use Rattle.sub_base.specs.declared.profile.ProfileName.{ProfileName}
 use Rattle.stream_syntax.specs.TransportPackets.{packet_fault}
 use Rattle.stream_syntax.specs.Units.{last_counter, hand_after}
-use Rattle.cue_list.specs.declared.script.Script.{Script}
 use Rattle.page_epoch.specs.declared.planned_set.PlannedSet.{PlannedSet}
 use Rattle.schedule.specs.Packets.{packets_of}
 use Rattle.schedule.specs.Slots.{Timetable, start_of, slots_of}
@@ -25,7 +23,7 @@ use Rattle.decoder_model.specs.Sets.{Delivery, runs_of, sets_in, sets_of}
 use Rattle.decoder_model.specs.Shown.{Agrees, view_at}
 use Rattle.decoder_model.specs.Streams.{Sending, SentSet, IsReceived, IsGoodTick, IsCutTo, received_of, is_received_at}
 use Rattle.decoder_model.proofs.SentUnits.{no_hand}
-use Rattle.shown_stream.specs.Compiled.{IsCompiledFor, IsCompiledTo, all_units}
+use Rattle.shown_stream.specs.Compiled.{IsCompiledFor, IsCompiledTo, all_units, Compiling, received_by}
 use Rattle.shown_stream.specs.Entered.{IsCutRightly}
 use Rattle.shown_stream.specs.HoldsWhole.{HoldsWhole}
 use Rattle.shown_stream.specs.KeptSets.{IsKept}
@@ -53,6 +51,7 @@ use Rattle.shown_stream.proofs.Lost.LostWalk.{Before}
 use Rattle.reading_laws.proofs.OneReading.{same_past}
 use Rattle.shown_stream.proofs.Shown.PlannedRegions.{planned_well}
 use Rattle.shown_stream.proofs.Sent.PlannedTimes.{times_in_span, pts_rise}
+use Rattle.shown_stream.specs.SentPlan.{sent_plan}
 use Rattle.slot_stream.proofs.SentPieces.{IsFree, none_refused}
 use Rattle.slot_stream.proofs.SentStream.{pieces_are}
 use Rattle.sent_sets.proofs.LateStream.{no_counter}
@@ -63,44 +62,46 @@ use Rattle.sent_sets.proofs.SlotPlaces.{start_is}
 use Rattle.sent_sets.proofs.Units.{TimedSet, timed_units}
 
 -- what is received of a compiled stream that is shortly cut, what is shown of it, what is kept, and what is held
-pub record IsReceivedCut (name : ProfileName) (pid page : ℕ) (script : Script) (bytes : List ℕ)
-    (compiled : IsCompiledTo name pid page script bytes) (sendings : List Sending) (received : List (List ℕ))
+pub record IsReceivedCut (compiling : Compiling) (bytes : List ℕ)
+    (compiled : IsCompiledTo compiling bytes) (sendings : List Sending) (received : List (List ℕ))
     (anchor tick : ℕ) : Type 0 where
   pub past : List (Delivery Reading)
-  pub has_received : HasReceived (profile_of name) pid (only page) true received past
+  pub has_received : HasReceived (received_by compiling anchor) true received past
   pub shows : IsGoodTick (sent_sets compiled.table compiled.sets) sendings tick
-      → Agrees (view_at (profile_of name) anchor tick past) (authored_view script tick)
+      → Agrees (view_at (profile_of compiling.profile) anchor tick past) (authored_view compiling.script tick)
   pub kept : (number : ℕ) (set : PlannedSet) → slice_get compiled.sets number ≡ Some set
       → IsReceived sendings (sent_set compiled.table number set)
-      → IsKept (profile_of name) anchor (IsGoodTick (sent_sets compiled.table compiled.sets) sendings) past set
-  pub holds : HoldsWhole script (profile_of name) anchor compiled.sets
+      → IsKept (profile_of compiling.profile) anchor (IsGoodTick (sent_sets compiled.table compiled.sets) sendings) past
+      set
+  pub holds : HoldsWhole compiling.script (profile_of compiling.profile) anchor compiled.sets
       (λ number set. IsReceived sendings (sent_set compiled.table number set)) past
 
-pub received_cut : (name : ProfileName) (pid page : ℕ) (script : Script) (bytes : List ℕ) → IsFree pid
-    → IsCompiledFor name → (compiled : IsCompiledTo name pid page script bytes)
+pub received_cut : (compiling : Compiling) (bytes : List ℕ) → IsFree compiling.pid
+    → IsCompiledFor compiling.profile → (compiled : IsCompiledTo compiling bytes)
     → (sendings : List Sending) (received : List (List ℕ))
-    → IsCutTo pid (packets_in name pid page script bytes compiled) sendings received → (anchor : ℕ)
+    → IsCutTo compiling.pid (packets_in compiling bytes compiled) sendings received → (anchor : ℕ)
     → IsAnchorOf (first_times_received sendings (sent_sets compiled.table compiled.sets)) anchor → (tick : ℕ)
-    → IsReceivedCut name pid page script bytes compiled sendings received anchor tick
-received_cut name pid page script bytes free made compiled sendings received cut anchor suits tick = record {
+    → IsReceivedCut compiling bytes compiled sendings received anchor tick
+received_cut compiling bytes free made compiled sendings received cut anchor suits tick = record {
   past = ends.past;
   has_received =
       subst (λ (all : List (Delivery (List ℕ))). AreDeliveriesRead all ends.past)
       (turned_is deliveries [] ∙ append-nil (reverse deliveries) ∙ ap reverse (sym sets_are)) ends.read;
   shows =
       λ good. ends.seen
-      (good_from script profile anchor script.origin page tick sets sendings table false 0 [] sets sent come good.before
+      (good_from compiling.script profile anchor compiling.script.origin compiling.page tick sets sendings table false 0
+      [] sets sent come good.before
       good.entry good.after fits refl good.placed good.begins good.come
       (recursion_from_All (λ (set : SentSet). set.time ≤ tick → IsReceived sendings set)
       (good.entry ∷ good.after) good.whole));
   kept =
       kept_if_whole sendings table profile anchor ends.past sets
-      (pts_rise script profile sets compiled.planned.plan) ends.kept;
+      (pts_rise compiling.script profile sets compiled.planned.plan) ends.kept;
   holds = ends.holds;
 }
   where
     profile : Profile
-    profile = profile_of name
+    profile = profile_of compiling.profile
 
     coded : ℕ
     coded = profile.coded
@@ -117,8 +118,8 @@ received_cut name pid page script bytes free made compiled sendings received cut
     loads : List WriteLoad
     loads = compiled.loads
 
-    known : ArePackets name pid page script bytes compiled
-    known = are_packets name pid page script bytes free made compiled
+    known : ArePackets compiling bytes compiled
+    known = are_packets compiling bytes free made compiled
 
     sent : List TimedSet
     sent = known.sent
@@ -133,7 +134,7 @@ received_cut name pid page script bytes free made compiled sendings received cut
     ComesWhole number set = IsReceived sendings (sent_set table number set)
 
     ahead : IsAhead 0 slots
-    ahead = slots_rise loads (length loads) (pace_of script.origin profile) table compiled.schedule
+    ahead = slots_rise loads (length loads) (pace_of compiling.script.origin profile) table compiled.schedule
 
     same : length pieces ≡ length slots
     same = sym (count_pieces loads compiled.units compiled.sized) ∙ sym compiled.schedule.packets
@@ -145,50 +146,54 @@ received_cut name pid page script bytes free made compiled sendings received cut
     flags = there_at sendings 0 slots
 
     come : List Bool
-    come = come_whole coded (only page) units flags
+    come = come_whole coded (only compiling.page) units flags
 
     arrivals : List Arrival
-    arrivals = flow coded pid (only page) [] (received_of sendings)
+    arrivals = flow coded compiling.pid (only compiling.page) [] (received_of sendings)
 
     deliveries : List (Delivery (List ℕ))
     deliveries = sets_in coded true (runs_of arrivals)
 
-    sound : AllByRecursion (λ packet. packet_fault pid packet ≡ None) (received_of sendings)
+    sound : AllByRecursion (λ packet. packet_fault compiling.pid packet ≡ None) (received_of sendings)
     sound =
-        received_sound pid sendings
-        (subst (AllByRecursion (λ packet. packet_fault pid packet ≡ None)) cut.sent
-        (none_refused pid 0 0 pieces slots free are_pieces))
+        received_sound compiling.pid sendings
+        (subst (AllByRecursion (λ packet. packet_fault compiling.pid packet ≡ None)) cut.sent
+        (none_refused compiling.pid 0 0 pieces slots free are_pieces))
 
-    sets_are : sets_of coded pid (only page) true received ≡ deliveries
+    sets_are : sets_of coded compiling.pid (only compiling.page) true received ≡ deliveries
     sets_are =
-        ap (sets_of coded pid (only page) true) cut.rest
-        ∙ sets_by_flow coded pid (only page) (received_of sendings) sound
+        ap (sets_of coded compiling.pid (only compiling.page) true) cut.rest
+        ∙ sets_by_flow coded compiling.pid (only compiling.page) (received_of sendings) sound
 
-    walking : Walking coded (only page) Fresh 0 pieces flags arrivals
+    walking : Walking coded (only compiling.page) Fresh 0 pieces flags arrivals
     walking = record {
-      last = last_counter pid [];
-      hand = hand_after pid coded [];
+      last = last_counter compiling.pid [];
+      hand = hand_after compiling.pid coded [];
       since = None;
-      stands = (no_counter pid, no_hand pid coded, refl);
+      stands = (no_counter compiling.pid, no_hand compiling.pid coded, refl);
       near =
-          near_from pid 0 0 pieces slots sendings sendings None free are_pieces same ahead cut.sent cut.short
+          near_from compiling.pid 0 0 pieces slots sendings sendings None free are_pieces same ahead cut.sent cut.short
           ([], refl);
-      walk = walked pid coded (only page) 0 0 pieces slots sendings [] free are_pieces same ahead cut.sent;
+      walk =
+          walked compiling.pid coded (only compiling.page) 0 0 pieces slots sendings [] free are_pieces same ahead
+          cut.sent;
     }
 
     arrive : Arrive Fresh (timed_units sent) come arrivals
     arrive =
-        units_arrive coded (only page) Fresh 0 units (timed_units sent) flags arrivals known.units known.are.carry.each
+        units_arrive coded (only compiling.page) Fresh 0 units (timed_units sent) flags arrivals known.units
+        known.are.carry.each
         walking
 
-    before : Before script profile anchor script.origin page sets ComesWhole Fresh [] [] [] sets sent come deliveries
+    before : Before compiling.script profile anchor compiling.script.origin compiling.page sets ComesWhole Fresh [] []
+        [] sets sent come deliveries
     before = record {
       parts = refl;
       bound = record { arrivals = arrivals; arrive = arrive; are = refl };
       read = tt;
       known = (new_receiver profile anchor).unknown;
       last = inl (no_time anchor);
-      holds = holds_none script profile anchor sets ComesWhole;
+      holds = holds_none compiling.script profile anchor sets ComesWhole;
       streak = λ come. absurd come;
       kept = tt;
     }
@@ -196,16 +201,16 @@ received_cut name pid page script bytes free made compiled sendings received cut
     many : length loads ≡ length sets
     many =
         as_many loads compiled.units compiled.sized
-        ∙ (count_sets script page sets compiled.units sent known.are.are).1
+        ∙ (count_sets compiling.script compiling.page sets compiled.units sent known.are.are).1
 
     flags_are : (n : ℕ) → n < length sets
         → flags_at compiled.units flags n ≡ there_at sendings 0 (slots_of table n)
     flags_are n inside =
         let start =
-        start_is loads (length loads) (pace_of script.origin profile) table compiled.schedule n
+        start_is loads (length loads) (pace_of compiling.script.origin profile) table compiled.schedule n
         (omega (arith, many, inside)) in
         let end =
-        start_is loads (length loads) (pace_of script.origin profile) table compiled.schedule (suc n)
+        start_is loads (length loads) (pace_of compiling.script.origin profile) table compiled.schedule (suc n)
         (omega (arith, many, inside)) in
         let more = sum_below-suc (packets_of loads) n in
         let first : length (all_pieces (all_units (take n compiled.units))) ≡ start_of table n =
@@ -217,9 +222,10 @@ received_cut name pid page script bytes free made compiled sendings received cut
         ∙ ap (take (slice_index table.ends n - start_of table n)) (there-drop sendings (start_of table n) slots)
         ∙ there-take sendings (slice_index table.ends n - start_of table n) (drop (start_of table n) slots)
 
-    told : AreTold script profile anchor script.origin page sets ComesWhole 0 sets compiled.units flags
+    told : AreTold compiling.script profile anchor compiling.script.origin compiling.page sets ComesWhole 0 sets
+        compiled.units flags
     told = record {
-      well = λ n set found. planned_well script profile sets n set compiled.planned.plan found;
+      well = λ n set found. planned_well compiling.script profile sets n set compiled.planned.plan found;
       whole = λ n set found own.
           ap (λ all. list_all (λ b. b) all) (flags_are n (slice_get_within sets n set found))
           ∙ all_there sendings (slots_of table n)
@@ -232,92 +238,98 @@ received_cut name pid page script bytes free made compiled sendings received cut
           (λ i one before. none i one (omega (arith, before)));
     }
 
-    fits : AreFit script profile anchor script.origin page sets ComesWhole [] sets sent come
+    fits : AreFit compiling.script profile anchor compiling.script.origin compiling.page sets ComesWhole [] sets sent
+        come
     fits =
-        (let low = low_origin script in
-        are_fit script profile anchor script.origin page sets ComesWhole 0 [] sets compiled.units sent flags
+        (let low = low_origin compiling.script in
+        are_fit compiling.script profile anchor compiling.script.origin compiling.page sets ComesWhole 0 [] sets
+        compiled.units sent flags
         (omega (arith, low)) refl known.are.are
-        (all_come script profile sets sent compiled.planned.plan
-        (λ number set found. planned_well script profile sets number set compiled.planned.plan found)
-        (timed_as script page sets compiled.units sent known.are.are))
-        known.are.carry.whole (have_units coded (only page) sent known.are.carry.whole) known.apart
-        (times_in_span script profile sets compiled.planned.plan)
-        (pts_rise script profile sets compiled.planned.plan) known.units
+        (all_come compiling.script profile sets sent compiled.planned.plan
+        (λ number set found. planned_well compiling.script profile sets number set compiled.planned.plan found)
+        (timed_as compiling.script compiling.page sets compiled.units sent known.are.are))
+        known.are.carry.whole (have_units coded (only compiling.page) sent known.are.carry.whole) known.apart
+        (times_in_span compiling.script profile sets compiled.planned.plan)
+        (pts_rise compiling.script profile sets compiled.planned.plan) known.units
         (omega (arith, same, length-there sendings 0 slots)) told)
 
-    ends : Ends script profile anchor script.origin page sets ComesWhole deliveries []
+    ends : Ends compiling.script profile anchor compiling.script.origin compiling.page sets ComesWhole deliveries []
         (λ final. GoodFrom tick false sets sent come
-        → Agrees (view_at profile anchor tick final) (authored_view script tick))
+        → Agrees (view_at profile anchor tick final) (authored_view compiling.script tick))
     ends =
-        good_ends script profile anchor script.origin page sets ComesWhole tick false Fresh [] [] [] sets sent come
+        good_ends compiling.script profile anchor compiling.script.origin compiling.page sets ComesWhole tick false
+        Fresh [] [] [] sets sent come
         deliveries compiled.planned.plan before fits (λ e. absurd (let no : false ≡ true = e in cc))
 
 -- at each good tick what is shown agrees with what is authored
-pub cut_shown : (name : ProfileName) (pid page : ℕ) (script : Script) (bytes : List ℕ) → IsFree pid
-    → IsCompiledFor name → (compiled : IsCompiledTo name pid page script bytes)
+pub cut_shown : (compiling : Compiling) (bytes : List ℕ) → IsFree compiling.pid
+    → IsCompiledFor compiling.profile → (compiled : IsCompiledTo compiling bytes)
     → (sendings : List Sending) (received : List (List ℕ))
-    → IsCutTo pid (packets_in name pid page script bytes compiled) sendings received → (anchor : ℕ)
+    → IsCutTo compiling.pid (packets_in compiling bytes compiled) sendings received → (anchor : ℕ)
     → IsAnchorOf (first_times_received sendings (sent_sets compiled.table compiled.sets)) anchor → (tick : ℕ)
     → IsGoodTick (sent_sets compiled.table compiled.sets) sendings tick
-    → Shows (profile_of name) pid (only page) anchor received tick (authored_view script tick)
-cut_shown name pid page script bytes free made compiled sendings received cut anchor suits tick good =
-    let got = received_cut name pid page script bytes free made compiled sendings received cut anchor suits tick in
+    → Shows (received_by compiling anchor) received tick (authored_view compiling.script tick)
+cut_shown compiling bytes free made compiled sendings received cut anchor suits tick good =
+    let got = received_cut compiling bytes free made compiled sendings received cut anchor suits tick in
     record {
-      shown = view_at (profile_of name) anchor tick got.past;
+      shown = view_at (profile_of compiling.profile) anchor tick got.past;
       is_shown = record { past = got.past; received = got.has_received; is_view = refl };
       agrees = got.shows good;
     }
 
 -- each set that comes whole is kept
-pub cut_kept : (name : ProfileName) (pid page : ℕ) (script : Script) (bytes : List ℕ) → IsFree pid
-    → IsCompiledFor name → (compiled : IsCompiledTo name pid page script bytes)
+pub cut_kept : (compiling : Compiling) (bytes : List ℕ) → IsFree compiling.pid
+    → IsCompiledFor compiling.profile → (compiled : IsCompiledTo compiling bytes)
     → (sendings : List Sending) (received : List (List ℕ))
-    → IsCutTo pid (packets_in name pid page script bytes compiled) sendings received → (anchor : ℕ)
+    → IsCutTo compiling.pid (packets_in compiling bytes compiled) sendings received → (anchor : ℕ)
     → IsAnchorOf (first_times_received sendings (sent_sets compiled.table compiled.sets)) anchor
-    → (past : List (Delivery Reading)) → HasReceived (profile_of name) pid (only page) true received past
+    → (past : List (Delivery Reading)) → HasReceived (received_by compiling anchor) true received past
     → (number : ℕ) (set : PlannedSet) → slice_get compiled.sets number ≡ Some set
     → IsReceived sendings (sent_set compiled.table number set)
-    → IsKept (profile_of name) anchor (IsGoodTick (sent_sets compiled.table compiled.sets) sendings) past set
-cut_kept name pid page script bytes free made compiled sendings received cut anchor suits past has_received number set
+    → IsKept (profile_of compiling.profile) anchor (IsGoodTick (sent_sets compiled.table compiled.sets) sendings) past
+    set
+cut_kept compiling bytes free made compiled sendings received cut anchor suits past has_received number set
     found own =
-    let got = received_cut name pid page script bytes free made compiled sendings received cut anchor suits 0 in
+    let got = received_cut compiling bytes free made compiled sendings received cut anchor suits 0 in
     let same =
-    same_past (reverse (sets_of (profile_of name).coded pid (only page) true received)) got.past past
+    same_past (reverse (sets_of (profile_of compiling.profile).coded compiling.pid (only compiling.page) true received))
+    got.past past
     got.has_received has_received in
-    subst (λ (all : List (Delivery Reading)). IsKept (profile_of name) anchor
+    subst (λ (all : List (Delivery Reading)). IsKept (profile_of compiling.profile) anchor
     (IsGoodTick (sent_sets compiled.table compiled.sets) sendings) all set) same (got.kept number set found own)
 
 -- and behind each of them whose epoch is known the page memory holds the script
-pub cut_held : (name : ProfileName) (pid page : ℕ) (script : Script) (bytes : List ℕ) → IsFree pid
-    → IsCompiledFor name → (compiled : IsCompiledTo name pid page script bytes)
+pub cut_held : (compiling : Compiling) (bytes : List ℕ) → IsFree compiling.pid
+    → IsCompiledFor compiling.profile → (compiled : IsCompiledTo compiling bytes)
     → (sendings : List Sending) (received : List (List ℕ))
-    → IsCutTo pid (packets_in name pid page script bytes compiled) sendings received → (anchor : ℕ)
+    → IsCutTo compiling.pid (packets_in compiling bytes compiled) sendings received → (anchor : ℕ)
     → IsAnchorOf (first_times_received sendings (sent_sets compiled.table compiled.sets)) anchor
-    → (past : List (Delivery Reading)) → HasReceived (profile_of name) pid (only page) true received past
-    → HoldsWhole script (profile_of name) anchor compiled.sets
+    → (past : List (Delivery Reading)) → HasReceived (received_by compiling anchor) true received past
+    → HoldsWhole compiling.script (profile_of compiling.profile) anchor compiled.sets
     (λ number set. IsReceived sendings (sent_set compiled.table number set)) past
-cut_held name pid page script bytes free made compiled sendings received cut anchor suits past has_received =
-    let got = received_cut name pid page script bytes free made compiled sendings received cut anchor suits 0 in
+cut_held compiling bytes free made compiled sendings received cut anchor suits past has_received =
+    let got = received_cut compiling bytes free made compiled sendings received cut anchor suits 0 in
     let same =
-    same_past (reverse (sets_of (profile_of name).coded pid (only page) true received)) got.past past
+    same_past (reverse (sets_of (profile_of compiling.profile).coded compiling.pid (only compiling.page) true received))
+    got.past past
     got.has_received has_received in
-    subst (HoldsWhole script (profile_of name) anchor compiled.sets
+    subst (HoldsWhole compiling.script (profile_of compiling.profile) anchor compiled.sets
     (λ number set. IsReceived sendings (sent_set compiled.table number set))) same got.holds
 
 -- so every compiled stream is shown rightly, whatever packets of it are lost, between two that come at most 14
-pub compiled_cut : (name : ProfileName) (pid page : ℕ) (script : Script) (bytes : List ℕ) → IsFree pid
-    → IsCompiledFor name → (compiled : IsCompiledTo name pid page script bytes)
+pub compiled_cut : (compiling : Compiling) (bytes : List ℕ) → IsFree compiling.pid
+    → IsCompiledFor compiling.profile → (compiled : IsCompiledTo compiling bytes)
     → (sendings : List Sending) (received : List (List ℕ))
-    → IsCutTo pid (packets_in name pid page script bytes compiled) sendings received
-    → IsCutRightly name pid (only page) script compiled.sets compiled.table sendings received
-compiled_cut name pid page script bytes free made compiled sendings received cut = record {
+    → IsCutTo compiling.pid (packets_in compiling bytes compiled) sendings received
+    → IsCutRightly (sent_plan compiling compiled.sets compiled.table) sendings received
+compiled_cut compiling bytes free made compiled sendings received cut = record {
   shown =
-      λ anchor suits tick good. cut_shown name pid page script bytes free made compiled sendings received cut anchor
+      λ anchor suits tick good. cut_shown compiling bytes free made compiled sendings received cut anchor
       suits tick good;
   kept =
-      λ anchor suits past has_received number set found own. cut_kept name pid page script bytes free made compiled
+      λ anchor suits past has_received number set found own. cut_kept compiling bytes free made compiled
       sendings received cut anchor suits past has_received number set found own;
   held =
-      λ anchor suits past has_received. cut_held name pid page script bytes free made compiled sendings received cut
+      λ anchor suits past has_received. cut_held compiling bytes free made compiled sendings received cut
       anchor suits past has_received;
 }

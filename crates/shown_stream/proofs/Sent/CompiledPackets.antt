@@ -5,13 +5,11 @@ use Rattle.std.specs.List.{AllByRecursion, concat}
 use Rattle.std.proofs.lemmas.List.Elements.{All-from_recursion}
 use Rattle.sub_base.specs.Pace.{pace_of}
 use Rattle.sub_base.specs.Profile.{profile_of}
-use Rattle.sub_base.specs.declared.profile.ProfileName.{ProfileName}
 use Rattle.stream_syntax.specs.Cutting.{IsUnit}
 use Rattle.decoder_model.specs.Frames.{only}
 use Rattle.decoder_model.specs.Sets.{sets_of}
 use Rattle.decoder_model.proofs.SentUnits.{ComeWhole}
-use Rattle.cue_list.specs.declared.script.Script.{Script}
-use Rattle.shown_stream.specs.Compiled.{IsCompiledFor, all_units, IsCompiledTo}
+use Rattle.shown_stream.specs.Compiled.{IsCompiledFor, all_units, IsCompiledTo, Compiling}
 use Rattle.slot_stream.specs.SlotStream.{all_pieces}
 use Rattle.slot_stream.proofs.LaidPackets.{laid}
 use Rattle.shown_stream.proofs.Sent.PlannedTimes.{different_times}
@@ -27,52 +25,59 @@ use Rattle.sent_sets.proofs.Units.{TimedSet, AreUnitsOf}
 -- ---- the packets
 
 -- the packets, one by one
-abbrev pub packets_in : (name : ProfileName) (pid page : ℕ) (script : Script) (bytes : List ℕ)
-    → IsCompiledTo name pid page script bytes → List (List ℕ)
-packets_in name pid page script bytes compiled =
-    laid pid 0 0 (all_pieces (all_units compiled.units)) compiled.table.slots
+abbrev pub packets_in : (compiling : Compiling) (bytes : List ℕ)
+    → IsCompiledTo compiling bytes → List (List ℕ)
+packets_in compiling bytes compiled =
+    laid compiling.pid 0 0 (all_pieces (all_units compiled.units)) compiled.table.slots
 
 -- what is known of them
-pub record ArePackets (name : ProfileName) (pid page : ℕ) (script : Script) (bytes : List ℕ)
-    (compiled : IsCompiledTo name pid page script bytes) : Type 0 where
-  pub joined : bytes ≡ concat (packets_in name pid page script bytes compiled)
-  pub whole : All (λ packet. length packet ≡ 188) (packets_in name pid page script bytes compiled)
-  pub units : AllByRecursion (IsUnit (profile_of name).coded) (all_units compiled.units)
-  pub stream : AreSentPackets (profile_of name).coded pid compiled.units compiled.table
-  pub handed_out : ComeWhole pid (profile_of name).coded (packets_in name pid page script bytes compiled)
+pub record ArePackets (compiling : Compiling) (bytes : List ℕ)
+    (compiled : IsCompiledTo compiling bytes) : Type 0 where
+  pub joined : bytes ≡ concat (packets_in compiling bytes compiled)
+  pub whole : All (λ packet. length packet ≡ 188) (packets_in compiling bytes compiled)
+  pub units : AllByRecursion (IsUnit (profile_of compiling.profile).coded) (all_units compiled.units)
+  pub stream : AreSentPackets (profile_of compiling.profile).coded compiling.pid compiled.units compiled.table
+  pub handed_out : ComeWhole compiling.pid (profile_of compiling.profile).coded (packets_in compiling bytes compiled)
       (all_units compiled.units)
   pub received : (timed : List TimedSet)
-      → AreUnitsOf (profile_of name).coded (only page) (all_units compiled.units) timed → HaveDifferentTimes timed
-      → sets_of (profile_of name).coded pid (only page) true (packets_in name pid page script bytes compiled)
+      → AreUnitsOf (profile_of compiling.profile).coded (only compiling.page) (all_units compiled.units) timed
+      → HaveDifferentTimes timed
+      → sets_of (profile_of compiling.profile).coded compiling.pid (only compiling.page) true
+      (packets_in compiling bytes compiled)
       ≡ map delivered timed
   pub sent : List TimedSet
-  pub are : AreAllPackets (profile_of name).coded script page compiled.sets compiled.units sent
+  pub are : AreAllPackets (profile_of compiling.profile).coded compiling.script compiling.page compiled.sets
+      compiled.units sent
   pub apart : HaveDifferentTimes sent
-  pub sets : sets_of (profile_of name).coded pid (only page) true (packets_in name pid page script bytes compiled)
+  pub sets : sets_of (profile_of compiling.profile).coded compiling.pid (only compiling.page) true
+      (packets_in compiling bytes compiled)
       ≡ map delivered sent
 
 -- joined they are the bytes, each has 188 bytes, and a demultiplexer hands out all units of all sets, each whole. Where
 -- their units are those of sets, these sets are received. So the sets of the plan are, each whole with the segments of
 -- all of its units
-pub are_packets : (name : ProfileName) (pid page : ℕ) (script : Script) (bytes : List ℕ) → IsFree pid
-    → IsCompiledFor name
-    → (compiled : IsCompiledTo name pid page script bytes) → ArePackets name pid page script bytes compiled
-are_packets name pid page script bytes free made compiled =
-    let coded = (profile_of name).coded in
+pub are_packets : (compiling : Compiling) (bytes : List ℕ) → IsFree compiling.pid
+    → IsCompiledFor compiling.profile
+    → (compiled : IsCompiledTo compiling bytes) → ArePackets compiling bytes compiled
+are_packets compiling bytes free made compiled =
+    let coded = (profile_of compiling.profile).coded in
     let loads = compiled.loads in
     let units = all_units compiled.units in
-    let packets = stream_packets pid compiled.units compiled.table in
+    let packets = stream_packets compiling.pid compiled.units compiled.table in
     let room = all_room coded loads compiled.units compiled.sized compiled.on_time.fits in
     let short =
-    all_short script compiled.sets loads compiled.units compiled.planned.asked compiled.sized
+    all_short compiling.script compiled.sets loads compiled.units compiled.planned.asked compiled.sized
     compiled.on_time.short in
-    let all = all_packets coded script page compiled.sets compiled.units compiled.carried room short in
-    let sent = sent_of script page compiled.sets compiled.units compiled.carried in
+    let all =
+    all_packets coded compiling.script compiling.page compiled.sets compiled.units compiled.carried room short in
+    let sent = sent_of compiling.script compiling.page compiled.sets compiled.units compiled.carried in
     let apart =
-    different_times script (profile_of name) page compiled.sets compiled.units sent compiled.planned.plan
+    different_times compiling.script (profile_of compiling.profile) compiling.page compiled.sets compiled.units sent
+    compiled.planned.plan
     all.are in
     let stream =
-    sent_packets coded pid (pace_of script.origin (profile_of name)) loads compiled.units compiled.table free
+    sent_packets coded compiling.pid (pace_of compiling.script.origin (profile_of compiling.profile)) loads
+    compiled.units compiled.table free
     all.units_are compiled.sized compiled.schedule in
     record {
       joined = compiled.sent ∙ stream.joined;
@@ -80,10 +85,14 @@ are_packets name pid page script bytes free made compiled =
       units = all.units_are;
       stream = stream;
       handed_out = stream.handed_out;
-      received = λ timed are apart. sets_come_whole coded pid (only page) true packets units timed stream.handed_out
+      received =
+          λ timed are apart. sets_come_whole coded compiling.pid (only compiling.page) true packets units timed
+          stream.handed_out
           are apart;
       sent = sent;
       are = all;
       apart = apart;
-      sets = sets_come_whole coded pid (only page) true packets units sent stream.handed_out all.carry apart;
+      sets =
+          sets_come_whole coded compiling.pid (only compiling.page) true packets units sent stream.handed_out all.carry
+          apart;
     }

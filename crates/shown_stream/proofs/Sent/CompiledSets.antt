@@ -19,7 +19,7 @@ use Rattle.page_epoch.specs.declared.planned_set.SentRegion.{SentRegion}
 use Rattle.decoder_model.specs.Frames.{only}
 use Rattle.decoder_model.proofs.Lists.{all-append}
 use Rattle.set_coder.specs.SetSegments.{display_segments, region_segment_of, clut_segment_of, leading_segments, AreObjectsOf, segment_bytes, unit_packet, AreSetSegments, AreSetPackets}
-use Rattle.shown_stream.specs.Compiled.{AreUnits, all_units}
+use Rattle.shown_stream.specs.Compiled.{AreUnitsOfSets, all_units}
 use Rattle.shown_stream.proofs.Sent.WrittenSets.{IsInner, AreInner, unit_with, set_with, joined_units, segments_with, size_with, HaveSegments, AreKnown, mapped_units, packets_mapped, whole_set, packets_are, all_known}
 use Rattle.sent_sets.proofs.RawUnits.{both_zip, packets_are_units, AreShort}
 use Rattle.sent_sets.proofs.Units.{TimedSet, timed, timed_units, size_of_units, all_segments, IsTimedSet, IsUnitOf, AreUnitsOf}
@@ -154,7 +154,7 @@ packets_of_set coded script page set packets h room short =
 
 -- the sets as they are sent
 abbrev pub sent_of : (script : Script) (page : ℕ) (sets : List PlannedSet) (units : List (List (List ℕ)))
-    → AreUnits script page sets units → List TimedSet
+    → AreUnitsOfSets script page sets units → List TimedSet
 sent_of script page [] [] carried = []
 sent_of script page [] (packets ∷ units) carried = []
 sent_of script page (set ∷ sets) [] carried = []
@@ -179,7 +179,7 @@ pub record AreAllPackets (coded : ℕ) (script : Script) (page : ℕ) (sets : Li
   pub units_are : AllByRecursion (IsUnit coded) (all_units units)
 
 pub all_packets : (coded : ℕ) (script : Script) (page : ℕ) (sets : List PlannedSet)
-    (units : List (List (List ℕ))) → (carried : AreUnits script page sets units)
+    (units : List (List (List ℕ))) → (carried : AreUnitsOfSets script page sets units)
     → AllByRecursion (λ (packets : List (List ℕ)). sum (map length packets) ≤ coded) units
     → AllByRecursion AreShort units
     → AreAllPackets coded script page sets units (sent_of script page sets units carried)

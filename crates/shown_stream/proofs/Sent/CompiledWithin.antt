@@ -5,14 +5,12 @@ use Rattle.std.proofs.lemmas.List.{length-map}
 use Rattle.sub_base.specs.Pace.{pace_of}
 use Rattle.sub_base.specs.Profile.{profile_of}
 use Rattle.sub_base.specs.declared.load.WriteLoad.{WriteLoad}
-use Rattle.sub_base.specs.declared.profile.ProfileName.{ProfileName}
-use Rattle.cue_list.specs.declared.script.Script.{Script}
 use Rattle.schedule.specs.Packets.{load_of, units_of, packets_of, first_packet, payloads_of}
 use Rattle.schedule.specs.Slots.{IsLoad}
 use Rattle.scheduled_level_laws.specs.EnteredCalls.{Entry}
 use Rattle.scheduled_level_laws.proofs.EnteredLevels.{IsEntry}
 use Rattle.scheduled_level_laws.proofs.EnteredWithin.{Holds}
-use Rattle.shown_stream.specs.Compiled.{IsCompiledTo}
+use Rattle.shown_stream.specs.Compiled.{IsCompiledTo, Compiling}
 use Rattle.slot_stream.specs.SlotStream.{Piece, all_pieces, pieces_of}
 use Rattle.shown_stream.proofs.Calls.CallsOfPieces.{units_in, unit_has_bytes}
 use Rattle.shown_stream.proofs.Calls.CompiledCalls.{compiled_stream, compiled_entry}
@@ -26,12 +24,13 @@ use Rattle.decoder_model.specs.declared.pages.Pages.{Pages}
 use Rattle.decoder_model.specs.Frames.{only}
 
 -- the schedule of a compiled stream holds
-pub compiled_holds : (name : ProfileName) (pid page : ℕ) (script : Script) (bytes : List ℕ)
-    (compiled : IsCompiledTo name pid page script bytes) (known : ArePackets name pid page script bytes compiled)
+pub compiled_holds : (compiling : Compiling) (bytes : List ℕ)
+    (compiled : IsCompiledTo compiling bytes) (known : ArePackets compiling bytes compiled)
     → All IsLoad compiled.loads
-    → Holds compiled.loads (pace_of script.origin (profile_of name)) compiled.table
-compiled_holds name pid page script bytes compiled known loads_are =
-    schedule_holds compiled.loads (pace_of script.origin (profile_of name)) compiled.table loads_are compiled.schedule
+    → Holds compiled.loads (pace_of compiling.script.origin (profile_of compiling.profile)) compiled.table
+compiled_holds compiling bytes compiled known loads_are =
+    schedule_holds compiled.loads (pace_of compiling.script.origin (profile_of compiling.profile)) compiled.table
+    loads_are compiled.schedule
     compiled.on_time
 
 -- an entry before which a unit begins lies in its set
@@ -60,25 +59,25 @@ within_set coded pages loads entry first behind (begins unit) inside =
     )
 
 -- a compiled stream is entered in one of its sets; no set asks more painting than is planned
-pub compiled_is_entry : (name : ProfileName) (pid page : ℕ) (script : Script) (bytes : List ℕ)
-    (compiled : IsCompiledTo name pid page script bytes) (known : ArePackets name pid page script bytes compiled)
+pub compiled_is_entry : (compiling : Compiling) (bytes : List ℕ)
+    (compiled : IsCompiledTo compiling bytes) (known : ArePackets compiling bytes compiled)
     (loads_are : All IsLoad compiled.loads) (painted : ℕ → ℕ) (missed : ℕ)
     → ((i : ℕ) → i < length compiled.loads → painted i ≤ (load_of compiled.loads i).painted)
     → IsEntry compiled.loads compiled.table.slots painted
-    (compiled_entry name pid page script bytes compiled known loads_are missed)
-compiled_is_entry name pid page script bytes compiled known loads_are painted missed most =
-    let coded = (profile_of name).coded in
+    (compiled_entry compiling bytes compiled known loads_are missed)
+compiled_is_entry compiling bytes compiled known loads_are painted missed most =
+    let coded = (profile_of compiling.profile).coded in
     let loads = compiled.loads in
-    let is = compiled_stream name pid page script bytes compiled known loads_are in
+    let is = compiled_stream compiling bytes compiled known loads_are in
     let n = units_missed coded missed (units_in compiled.units) compiled.table.slots is.whole in
     let first = first_packet loads 0 + length (all_pieces (take n (units_in compiled.units))) in
     let behind =
-    behind_units coded (only page) loads n 0 first compiled.units known.sent is.sent is.apart
+    behind_units coded (only compiling.page) loads n 0 first compiled.units known.sent is.sent is.apart
     (let many = is.many in omega arith) refl in
     record {
       are = is.are;
       within =
-          within_set coded (only page) loads (compiled_entry name pid page script bytes compiled known loads_are missed)
+          within_set coded (only compiling.page) loads (compiled_entry compiling bytes compiled known loads_are missed)
           first (all_pieces (drop n (units_in compiled.units))) behind;
       most = most;
     }

@@ -10,7 +10,7 @@ use Rattle.std.proofs.lemmas.List.Elements.{recursion_from_All, All-weaker, All-
 use Rattle.sub_base.specs.Picture.{Picture}
 use Rattle.sub_base.specs.declared.profile.Profile.{Profile}
 use Rattle.stream_syntax.specs.declared.wire.TheConstants.{TIME_ROUND, HALF_ROUND}
-use Rattle.cue_list.specs.Sound.{IsSound, IsTick, IsColourRow, IsCue}
+use Rattle.cue_list.specs.Sound.{IsSoundScript, IsTick, IsColourRow, IsCue}
 use Rattle.cue_list.specs.declared.epoch.ColourRow.{ColourRow}
 use Rattle.cue_list.specs.declared.epoch.Cue.{Cue}
 use Rattle.cue_list.specs.declared.epoch.Epoch.{Epoch}
@@ -35,7 +35,7 @@ span_prop : (origin : ℕ) (epochs : List Epoch) → IsProp (AreInSpan origin ep
 span_prop origin epochs = hlevel props
 
 span_from : (origin width height refresh : ℕ) (epochs : List Epoch) (pictures : List Picture)
-    → IsSound origin width height refresh epochs pictures → AreInSpan origin epochs
+    → IsSoundScript origin width height refresh epochs pictures → AreInSpan origin epochs
 span_from origin width height refresh epochs pictures sound =
     all_ticks (IsTick origin) epochs (λ k d h. let epoch = get_or epochs k d in let is = sound.each k d h in
     epoch_ticks (IsTick origin) epoch is.starts

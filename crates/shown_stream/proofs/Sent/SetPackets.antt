@@ -10,12 +10,11 @@ use Rattle.std.proofs.lemmas.List.Sums.{sum_by-cons}
 use Rattle.sub_base.specs.Pace.{pace_of}
 use Rattle.sub_base.specs.Profile.{profile_of}
 use Rattle.sub_base.specs.declared.load.WriteLoad.{WriteLoad}
-use Rattle.sub_base.specs.declared.profile.ProfileName.{ProfileName}
 use Rattle.stream_syntax.specs.TransportPackets.{null_packet}
-use Rattle.cue_list.specs.declared.script.Script.{Script}
 use Rattle.schedule.specs.Packets.{payload_in, unit_payloads, payloads_of, units_of, packets_of, first_packet}
 use Rattle.schedule.specs.Slots.{slot_of}
-use Rattle.shown_stream.specs.Compiled.{AreSizedAs, all_units, IsCompiledTo}
+use Rattle.shown_stream.specs.Compiled.{all_units, IsCompiledTo, Compiling}
+use Rattle.sent_sets.specs.SentStream.{AreSizedAs}
 use Rattle.slot_stream.specs.SlotStream.{Piece, no_piece, piece_count, piece_of, pieces_of, all_pieces, packet_of}
 use Rattle.shown_stream.proofs.Sent.CompiledPackets.{packets_in}
 use Rattle.slot_stream.proofs.LaidPackets.{laid, IsAhead}
@@ -138,14 +137,14 @@ at_slot pid from number (suc k) (piece ∷ pieces) (slot ∷ slots) ahead same i
     ∙ ap (λ n. packet_of pid n (slice_index_or pieces k no_piece)) next
 
 -- packet k of a set stands at its slot: it carries piece k of the set's units
-pub packet_at_slot : (name : ProfileName) (pid page : ℕ) (script : Script) (bytes : List ℕ)
-    (compiled : IsCompiledTo name pid page script bytes) (i k : ℕ) → i < length compiled.loads
+pub packet_at_slot : (compiling : Compiling) (bytes : List ℕ)
+    (compiled : IsCompiledTo compiling bytes) (i k : ℕ) → i < length compiled.loads
     → k < packets_of compiled.loads i
-    → slice_index_or (packets_in name pid page script bytes compiled)
+    → slice_index_or (packets_in compiling bytes compiled)
     (slot_of compiled.loads compiled.table.slots i k) []
-    ≡ packet_of pid (first_packet compiled.loads i + k)
+    ≡ packet_of compiling.pid (first_packet compiled.loads i + k)
     (slice_index_or (all_pieces (get_or compiled.units i [])) k no_piece)
-packet_at_slot name pid page script bytes compiled i k inside within =
+packet_at_slot compiling bytes compiled i k inside within =
     let loads = compiled.loads in
     let slots = compiled.table.slots in
     let pieces = all_pieces (all_units compiled.units) in
@@ -153,7 +152,8 @@ packet_at_slot name pid page script bytes compiled i k inside within =
     let later = all_pieces (all_units (drop (suc i) compiled.units)) in
     let number = first_packet loads i + k in
     let ahead =
-    slots_rise loads (length loads) (pace_of script.origin (profile_of name)) compiled.table compiled.schedule in
+    slots_rise loads (length loads) (pace_of compiling.script.origin (profile_of compiling.profile)) compiled.table
+    compiled.schedule in
     let same : length pieces ≡ length slots =
     sym (count_pieces loads compiled.units compiled.sized) ∙ sym compiled.schedule.packets in
     let behind = pieces_from i loads compiled.units inside compiled.sized in
@@ -162,10 +162,10 @@ packet_at_slot name pid page script bytes compiled i k inside within =
     ap length behind ∙ length-append own later in
     let all : number < length pieces = omega (arith, within, many, left, length-drop (first_packet loads i) pieces) in
     let whole : slice_index slots number ≡ slice_index slots number - 0 = omega arith in
-    ap (λ n. get_or (laid pid 0 0 pieces slots) n []) whole
-    ∙ at_slot pid 0 0 number pieces slots ahead same all
-    ∙ ap (λ n. packet_of pid n (slice_index_or pieces number no_piece)) (omega arith)
-    ∙ ap (packet_of pid number)
+    ap (λ n. get_or (laid compiling.pid 0 0 pieces slots) n []) whole
+    ∙ at_slot compiling.pid 0 0 number pieces slots ahead same all
+    ∙ ap (λ n. packet_of compiling.pid n (slice_index_or pieces number no_piece)) (omega arith)
+    ∙ ap (packet_of compiling.pid number)
     (sym (get_or-drop (first_packet loads i) pieces k no_piece)
     ∙ ap (λ (found : List Piece). get_or found k no_piece) behind
     ∙ get_or-append own later no_piece k (omega (arith, within, many)))

@@ -13,7 +13,8 @@ use Rattle.schedule.specs.Packets.{longest_of}
 use Rattle.set_coder.proofs.SetSizeLaws.{one_segment_sizes}
 use Rattle.set_coder.specs.SetSizes.{IsSetLoad}
 use Rattle.sent_sets.proofs.RawUnits.{AreShort}
-use Rattle.shown_stream.specs.Compiled.{AreLoads, AreSizedAs}
+use Rattle.shown_stream.specs.Compiled.{AreLoads}
+use Rattle.sent_sets.specs.SentStream.{AreSizedAs}
 
 -- ---- units
 

@@ -4,16 +4,15 @@ use Rattle.std.proofs.Common.{◌≡◌, ◌∙◌, ℕ, ◌<◌, List, map, [],
 use Rattle.std.proofs.lemmas.List.Elements.{All-from_recursion}
 use Rattle.sub_base.specs.Profile.{profile_of}
 use Rattle.sub_base.specs.declared.load.WriteLoad.{WriteLoad}
-use Rattle.sub_base.specs.declared.profile.ProfileName.{ProfileName}
 use Rattle.stream_syntax.specs.declared.wire.TheConstants.{NULL_PID}
 use Rattle.cue_list.specs.declared.script.Script.{Script}
 use Rattle.page_epoch.specs.declared.planned_set.PlannedSet.{PlannedSet}
 use Rattle.decoder_model.specs.Frames.{only}
 use Rattle.slot_stream.proofs.SentPieces.{IsFree}
 use Rattle.sent_sets.specs.RawSets.{RawSet, IsSendable, EndsLast}
-use Rattle.shown_stream.specs.Compiled.{IsCompiledFor, AreLoads, IsCompiledTo}
+use Rattle.shown_stream.specs.Compiled.{IsCompiledFor, AreLoads, IsCompiledTo, Compiling}
 use Rattle.shown_stream.specs.Entered.{IsEnteredRightly}
-use Rattle.shown_stream.specs.SentPlan.{HasPageFirst, IsSentPlan}
+use Rattle.shown_stream.specs.SentPlan.{HasPageFirst, IsSentPlan, sent_plan}
 use Rattle.shown_stream.proofs.Late.LateCompiled.{raw_sets, AreRawOf, raw_of, all_well}
 use Rattle.shown_stream.proofs.Sent.CompiledPackets.{packets_in, ArePackets, are_packets}
 use Rattle.shown_stream.proofs.Sent.PlannedTimes.{pts_of}
@@ -31,54 +30,56 @@ same_times script (set ∷ sets) (load ∷ loads) h =
     ∙ ap (λ rest. set.pts ∷ rest) (same_times script sets loads h.1)
 
 -- the sets of the plan are sent in a compiled stream, for a receiver of its page
-pub compiled_is_sent : (name : ProfileName) (pid page : ℕ) (script : Script) (bytes : List ℕ)
-    → (compiled : IsCompiledTo name pid page script bytes)
-    → (known : ArePackets name pid page script bytes compiled)
-    → IsSentPlan name pid (only page) script compiled.sets compiled.table bytes
-compiled_is_sent name pid page script bytes compiled known = record {
+pub compiled_is_sent : (compiling : Compiling) (bytes : List ℕ)
+    → (compiled : IsCompiledTo compiling bytes)
+    → (known : ArePackets compiling bytes compiled)
+    → IsSentPlan (sent_plan compiling compiled.sets compiled.table) bytes
+compiled_is_sent compiling bytes compiled known = record {
   plan = compiled.planned.plan;
   raw = raw;
   loads = compiled.loads;
   sendable = All-from_recursion IsSendable raw are.sendable;
-  ends = All-from_recursion (EndsLast (only page)) raw are.ends;
+  ends = All-from_recursion (EndsLast (only compiling.page)) raw are.ends;
   sent = record {
     each = compiled.each;
     units = compiled.units;
     carried = are.carried;
     sized = compiled.sized;
-    times = same_times script compiled.sets compiled.loads compiled.planned.asked ∙ are.times;
+    times = same_times compiling.script compiled.sets compiled.loads compiled.planned.asked ∙ are.times;
     schedule = compiled.schedule;
     on_time = compiled.on_time;
     sent = compiled.sent;
   };
   carries = are.carries;
-  page_first = All-from_recursion (HasPageFirst (only page)) raw are.page_first;
+  page_first = All-from_recursion (HasPageFirst (only compiling.page)) raw are.page_first;
 }
   where
     raw : List RawSet
-    raw = raw_sets script page compiled.sets compiled.units known.sent known.are.are
+    raw = raw_sets compiling.script compiling.page compiled.sets compiled.units known.sent known.are.are
 
-    are : AreRawOf script page compiled.sets compiled.units raw
+    are : AreRawOf compiling.script compiling.page compiled.sets compiled.units raw
     are =
-        raw_of (profile_of name).coded script page compiled.sets compiled.units known.sent known.are.are
+        raw_of (profile_of compiling.profile).coded compiling.script compiling.page compiled.sets compiled.units
+        known.sent known.are.are
         known.are.carry.whole
-        (all_short script compiled.sets compiled.loads compiled.units compiled.planned.asked compiled.sized
+        (all_short compiling.script compiled.sets compiled.loads compiled.units compiled.planned.asked compiled.sized
         compiled.on_time.short)
         (all_well compiled.sets
-        (λ number set found. planned_well script (profile_of name) compiled.sets number set compiled.planned.plan
+        (λ number set found. planned_well compiling.script (profile_of compiling.profile) compiled.sets number set
+        compiled.planned.plan
         found))
 
 -- so every compiled stream is entered rightly, behind any number of its packets
-pub compiled_entered : (name : ProfileName) (pid page : ℕ) (script : Script) (bytes : List ℕ) → IsFree pid
-    → IsCompiledFor name → (compiled : IsCompiledTo name pid page script bytes) → (missed : ℕ)
-    → IsEnteredRightly name pid (only page) script compiled.sets compiled.table
-    (packets_in name pid page script bytes compiled) missed
-compiled_entered name pid page script bytes free made compiled missed =
-    let known = are_packets name pid page script bytes free made compiled in
-    sent_entered name pid (only page) script compiled.sets compiled.table
-    (packets_in name pid page script bytes compiled) missed (below_null pid free) known.whole
-    (subst (IsSentPlan name pid (only page) script compiled.sets compiled.table) known.joined
-    (compiled_is_sent name pid page script bytes compiled known))
+pub compiled_entered : (compiling : Compiling) (bytes : List ℕ) → IsFree compiling.pid
+    → IsCompiledFor compiling.profile → (compiled : IsCompiledTo compiling bytes) → (missed : ℕ)
+    → IsEnteredRightly (sent_plan compiling compiled.sets compiled.table)
+    (packets_in compiling bytes compiled) missed
+compiled_entered compiling bytes free made compiled missed =
+    let known = are_packets compiling bytes free made compiled in
+    sent_entered (sent_plan compiling compiled.sets compiled.table)
+    (packets_in compiling bytes compiled) missed (below_null compiling.pid free) known.whole
+    (subst (IsSentPlan (sent_plan compiling compiled.sets compiled.table)) known.joined
+    (compiled_is_sent compiling bytes compiled known))
   where
     below_null : (pid : ℕ) → IsFree pid → pid < NULL_PID
     below_null pid free = omega (arith, free.small, free.no_null)

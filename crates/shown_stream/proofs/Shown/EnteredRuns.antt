@@ -98,14 +98,25 @@ on_top script profile anchor entry past one set top =
     (subst (λ (before : List (Delivery Reading)). IsPaintedAs script set (set_call profile anchor before top.delivery))
     rest top.painted)
 
+-- whom the sets of a plan come to
+pub record Listening : Type 0 where
+  pub script : Script
+  pub profile : Profile
+  pub anchor : ℕ
+  pub sets : List PlannedSet
+  pub is_plan : IsPlan script profile sets
+
+abbrev pub SoReceived : (listening : Listening) (past : List (Delivery Reading)) (left : List PlannedSet)
+    (deliveries : List (Delivery (List ℕ))) (entry : Option SentSet) → Type 0
+SoReceived listening past left deliveries entry =
+    IsReceivedSo listening.script listening.profile listening.anchor listening.sets past left deliveries entry
+
 -- with the set that came before them
-with_one : (script : Script) (profile : Profile) (anchor : ℕ) (sets : List PlannedSet)
-    (past : List (Delivery Reading)) (one : Delivery Reading) (set : PlannedSet) (left : List PlannedSet)
-    (deliveries : List (Delivery (List ℕ))) (entry : Option SentSet)
-    → IsOnTop script profile anchor entry (one ∷ past) set
-    → IsReceivedSo script profile anchor sets (one ∷ past) left deliveries entry
-    → IsReceivedSo script profile anchor sets past (set ∷ left) deliveries entry
-with_one script profile anchor sets past one set left deliveries entry top rest = record {
+with_one : (listening : Listening) {past : List (Delivery Reading)} {one : Delivery Reading} {set : PlannedSet}
+    {left : List PlannedSet} {deliveries : List (Delivery (List ℕ))} {entry : Option SentSet}
+    → IsOnTop listening.script listening.profile listening.anchor entry (one ∷ past) set
+    → SoReceived listening (one ∷ past) left deliveries entry → SoReceived listening past (set ∷ left) deliveries entry
+with_one listening {past} {one} {set} {left} {deliveries} {entry} top rest = record {
   past = rest.past;
   read = rest.read;
   shows = rest.shows;
@@ -125,93 +136,145 @@ with_one script profile anchor sets past one set left deliveries entry top rest 
     rest.kept,
   );
   painted =
-      subst (λ (calls : List (Delivery Reading)). AllZip (IsPaintedAs script) (set ∷ left)
-      (calls_behind profile anchor past calls)) (sym (reverse-append rest.more (one ∷ [])))
-      (on_top script profile anchor entry past one set top, rest.painted);
+      subst (λ (calls : List (Delivery Reading)). AllZip (IsPaintedAs listening.script) (set ∷ left)
+      (calls_behind listening.profile listening.anchor past calls)) (sym (reverse-append rest.more (one ∷ [])))
+      (on_top listening.script listening.profile listening.anchor entry past one set top, rest.painted);
 }
 
+-- a set comes behind another one of the plan
+record Comes (listening : Listening) (past : List (Delivery Reading)) (last : Option ℕ) (plan left : List PlannedSet)
+    (set : PlannedSet) (sent : TimedSet) : Type 0 where
+  before : last_time listening.anchor past ≡ last
+  parts : listening.sets ≡ reverse plan ++ (set ∷ left)
+  ahead : AreAheadOf listening.anchor last (set ∷ left)
+  come : SetComes listening.script set sent
+
 -- one set more
-next_entered : {sent : TimedSet} (script : Script) (profile : Profile) (anchor : ℕ) (sets : List PlannedSet)
-    (past : List (Delivery Reading)) (plan left : List PlannedSet) (before set : PlannedSet) (entry : SentSet)
-    → IsPlan script profile sets
-    → sets ≡ reverse (before ∷ plan) ++ (set ∷ left) → AreAheadOf anchor (Some before.pts) (set ∷ left)
-    → (comes : SetComes script set sent)
-    → IsEntered script profile anchor sets past plan (set ∷ left) before entry
-    → IsEntered script profile anchor sets (reading_of comes ∷ past) (before ∷ plan) left set entry
-next_entered script profile anchor sets past plan left before set entry is_plan parts ahead comes entered = record {
-  latest = comes.contents;
+next_entered : (listening : Listening) (past : List (Delivery Reading)) (plan left : List PlannedSet)
+    (before set : PlannedSet) {sent : TimedSet} (entry : SentSet)
+    → (here : Comes listening past (Some before.pts) (before ∷ plan) left set sent)
+    → IsEntered listening.script listening.profile listening.anchor listening.sets past plan (set ∷ left) before entry
+    → IsEntered listening.script listening.profile listening.anchor listening.sets (reading_of here.come ∷ past)
+    (before ∷ plan) left set entry
+next_entered listening past plan left before set entry here entered = record {
+  latest = here.come.contents;
   older = entered.latest ∷ entered.older;
-  are = shown.sets ∙ ap (λ known. comes.contents ∷ known) entered.are;
+  are = shown.sets ∙ ap (λ known. here.come.contents ∷ known) entered.are;
   run = run;
-  last = last_is anchor past comes lifted;
-  come = let rise = ahead.0.0 in let come = entered.come in omega arith;
+  last = last_is listening.anchor past here.come lifted;
+  come = let rise = here.ahead.0.0 in let come = entered.come in omega arith;
   shows = shows;
   holds =
-      holds_next script profile anchor sets (λ number set. Unit {0}) past (before ∷ plan) left set (reading_of comes)
-      is_plan parts lifted
-      (λ come. kept_holds profile anchor past (before ∷ plan) set comes.contents (reading_of comes) kept shown)
+      holds_next listening.script listening.profile listening.anchor listening.sets (λ number set. Unit {0}) past
+      (before ∷ plan) left set (reading_of here.come)
+      listening.is_plan here.parts lifted
+      (λ come. kept_holds listening.profile listening.anchor past (before ∷ plan) set here.come.contents
+      (reading_of here.come) kept shown)
       entered.holds;
   top =
       record {
-        delivery = reading_of comes;
+        delivery = reading_of here.come;
         before = past;
         placed = refl;
         lifted = lifted;
         shown = λ from. shown.verdict;
         kept = inl shown.verdict;
-        painted = painted_as script profile anchor past comes
+        painted = painted_as listening.script listening.profile listening.anchor past here.come
             lifted (inl shown.verdict);
       };
 }
   where
-    lifted : lifted_time anchor past (reading_of comes) ≡ Some set.pts
-    lifted = kept_at anchor (Some before.pts) past comes entered.last ahead.0 ahead.1
+    lifted : lifted_time listening.anchor past (reading_of here.come) ≡ Some set.pts
+    lifted = kept_at listening.anchor (Some before.pts) past here.come entered.last here.ahead.0 here.ahead.1
 
-    run : IsRun script (set ∷ before ∷ plan) (comes.contents ∷ entered.latest ∷ entered.older)
-    run = goes_on comes.epoch comes.found entered.run comes.is
+    run : IsRun listening.script (set ∷ before ∷ plan) (here.come.contents ∷ entered.latest ∷ entered.older)
+    run = goes_on here.come.epoch here.come.found entered.run here.come.is
 
-    whole : sets ≡ reverse (set ∷ before ∷ plan) ++ left
-    whole = parts ∙ sym (turned_more (before ∷ plan) left set)
+    whole : listening.sets ≡ reverse (set ∷ before ∷ plan) ++ left
+    whole = here.parts ∙ sym (turned_more (before ∷ plan) left set)
 
-    kept : RunKeeps script profile (before ∷ plan) set comes.contents (sets_since profile anchor past)
-    kept = subst (RunKeeps script profile (before ∷ plan) set comes.contents) (sym entered.are)
-        (run_keeps script profile sets (fair script) is_plan (set ∷ before ∷ plan)
-        (comes.contents ∷ entered.latest ∷ entered.older) run left whole)
+    kept : RunKeeps listening.script listening.profile (before ∷ plan) set here.come.contents
+        (sets_since listening.profile listening.anchor past)
+    kept = subst (RunKeeps listening.script listening.profile (before ∷ plan) set here.come.contents) (sym entered.are)
+        (run_keeps listening.script listening.profile listening.sets (fair listening.script) listening.is_plan
+        (set ∷ before ∷ plan)
+        (here.come.contents ∷ entered.latest ∷ entered.older) run left whole)
 
-    shown : IsShownSet script profile anchor past (before ∷ plan) set comes.contents (reading_of comes) kept
-    shown = shown_set profile anchor past (before ∷ plan) comes kept lifted
+    shown : IsShownSet listening.script listening.profile listening.anchor past (before ∷ plan) set here.come.contents
+        (reading_of here.come) kept
+    shown = shown_set listening.profile listening.anchor past (before ∷ plan) here.come kept lifted
 
     shows : (tick : ℕ) → IsBefore tick left
-        → IsShownFrom (Some entry) tick (view_at profile anchor tick (reading_of comes ∷ past))
-        (authored_view script tick)
+        → IsShownFrom (Some entry) tick (view_at listening.profile listening.anchor tick (reading_of here.come ∷ past))
+        (authored_view listening.script tick)
     shows tick early = by (cases_lt tick set.pts)
       where
         by : (tick < set.pts) ⊎ (set.pts ≤ tick)
-            → IsShownFrom (Some entry) tick (view_at profile anchor tick (reading_of comes ∷ past))
-            (authored_view script tick)
+            → IsShownFrom (Some entry) tick
+            (view_at listening.profile listening.anchor tick (reading_of here.come ∷ past))
+            (authored_view listening.script tick)
         by (inl sooner) =
-            subst (λ (view : View). IsShownFrom (Some entry) tick view (authored_view script tick))
+            subst (λ (view : View). IsShownFrom (Some entry) tick view (authored_view listening.script tick))
             (sym (shown.before tick sooner)) (entered.shows tick sooner)
         by (inr later) = (
-          λ soon. absurd (let rise = ahead.0.0 in let come = entered.come in omega arith),
-          λ from. subst (λ (view : View). Agrees view (authored_view script tick)) (sym (shown.from tick later))
-              (run_shows script profile sets (before ∷ plan) left set comes.contents (sets_since profile anchor past)
-              is_plan whole kept tick later early),
+          λ soon. absurd (let rise = here.ahead.0.0 in let come = entered.come in omega arith),
+          λ from. subst (λ (view : View). Agrees view (authored_view listening.script tick))
+              (sym (shown.from tick later))
+              (run_shows listening.script listening.profile listening.sets (before ∷ plan) left set here.come.contents
+              (sets_since listening.profile listening.anchor past)
+              listening.is_plan whole kept tick later early),
         )
 
+-- what came, and how it reads
+pub record Came : Type 0 where
+  pub taken : List (Delivery (List ℕ))
+  pub past : List (Delivery Reading)
+  pub read : AreDeliveriesRead taken past
+
+abbrev with_set : (script : Script) (came : Came) (set : PlannedSet) (sent : TimedSet) → SetComes script set sent → Came
+with_set script came set sent come = record {
+  taken = delivered sent ∷ came.taken;
+  past = reading_of come ∷ came.past;
+  read = (is_read come, came.read);
+}
+
+-- the sets of the plan that are left come as they were sent, behind one at that time
+pub record AreLeftOf (listening : Listening) (last : Option ℕ) (plan left : List PlannedSet) (sent : List TimedSet)
+    : Type 0 where
+  pub parts : listening.sets ≡ reverse plan ++ left
+  pub ahead : AreAheadOf listening.anchor last left
+  pub come : AllZip (SetComes listening.script) left sent
+
+abbrev comes_here : (listening : Listening) (past : List (Delivery Reading)) (last : Option ℕ)
+    (plan left : List PlannedSet) (set : PlannedSet) (one : TimedSet) (sent : List TimedSet)
+    → last_time listening.anchor past ≡ last → AreLeftOf listening last plan (set ∷ left) (one ∷ sent)
+    → Comes listening past last plan left set one
+comes_here listening past last plan left set one sent before are = record {
+  before = before;
+  parts = are.parts;
+  ahead = are.ahead;
+  come = are.come.0;
+}
+
+left_behind : (listening : Listening) (last : Option ℕ) (plan left : List PlannedSet) (set : PlannedSet)
+    (one : TimedSet) (sent : List TimedSet) → AreLeftOf listening last plan (set ∷ left) (one ∷ sent)
+    → AreLeftOf listening (Some set.pts) (set ∷ plan) left sent
+left_behind listening last plan left set one sent are = record {
+  parts = are.parts ∙ sym (turned_more plan left set);
+  ahead = are.ahead.2;
+  come = are.come.1;
+}
+
 -- all that are left
-pub go_on : (script : Script) (profile : Profile) (anchor : ℕ) (sets : List PlannedSet)
-    (taken : List (Delivery (List ℕ))) (past : List (Delivery Reading)) (plan left : List PlannedSet)
-    (sent : List TimedSet) (before : PlannedSet) (entry : SentSet)
-    → IsPlan script profile sets → sets ≡ reverse (before ∷ plan) ++ left
-    → AreAheadOf anchor (Some before.pts) left → AllZip (SetComes script) left sent
-    → AreDeliveriesRead taken past
-    → IsEntered script profile anchor sets past plan left before entry
-    → IsReceivedSo script profile anchor sets past left (turned (map delivered sent) taken) (Some entry)
-go_on script profile anchor sets taken past plan [] [] before entry is_plan parts ahead come read entered =
+pub go_on : (listening : Listening) (came : Came) (plan left : List PlannedSet) (sent : List TimedSet)
+    (before : PlannedSet) (entry : SentSet)
+    → AreLeftOf listening (Some before.pts) (before ∷ plan) left sent
+    → IsEntered listening.script listening.profile listening.anchor listening.sets came.past plan left before entry
+    → SoReceived listening came.past left (turned (map delivered sent) came.taken) (Some entry)
+go_on listening came plan [] [] before entry are entered =
     record {
-      past = past;
-      read = read;
+      past = came.past;
+      read = came.read;
       shows = λ tick. entered.shows tick tt;
       holds = entered.holds;
       more = [];
@@ -219,83 +282,87 @@ go_on script profile anchor sets taken past plan [] [] before entry is_plan part
       kept = tt;
       painted = tt;
     }
-go_on script profile anchor sets taken past plan [] (one ∷ sent) before entry is_plan parts ahead come read entered =
-    absurd come
-go_on script profile anchor sets taken past plan (set ∷ left) [] before entry is_plan parts ahead come read entered =
-    absurd come
-go_on script profile anchor sets taken past plan (set ∷ left) (one ∷ sent) before entry is_plan parts ahead come
-    read entered =
-    let next =
-    next_entered script profile anchor sets past plan left before set entry is_plan parts ahead come.0 entered in
-    with_one script profile anchor sets past (reading_of come.0) set left
-    (turned (map delivered sent) (delivered one ∷ taken)) (Some entry) next.top
-    (go_on script profile anchor sets (delivered one ∷ taken) (reading_of come.0 ∷ past) (before ∷ plan) left sent
-    set entry is_plan (parts ∙ sym (turned_more (before ∷ plan) left set)) ahead.2 come.1 (is_read come.0, read)
-    next)
+go_on listening came plan [] (one ∷ sent) before entry are entered = absurd are.come
+go_on listening came plan (set ∷ left) [] before entry are entered = absurd are.come
+go_on listening came plan (set ∷ left) (one ∷ sent) before entry are entered =
+    let here = comes_here listening came.past (Some before.pts) (before ∷ plan) left set one sent entered.last are in
+    let next = next_entered listening came.past plan left before set entry here entered in
+    with_one listening next.top
+    (go_on listening (with_set listening.script came set one are.come.0) (before ∷ plan) left sent set entry
+    (left_behind listening (Some before.pts) (before ∷ plan) left set one sent are) next)
 
 -- ---- until such a set comes
 
+-- no epoch is known yet, and each set is held as it is said
+pub record Waits (listening : Listening) (past : List (Delivery Reading)) : Type 0 where
+  pub idle : IsIdle listening.profile listening.anchor past
+  pub holds : HoldsEach listening.script listening.profile listening.anchor listening.sets past
+
 -- the first one that is not normal
-first_entered : {sent : TimedSet} (script : Script) (profile : Profile) (anchor : ℕ) (sets : List PlannedSet)
-    (past : List (Delivery Reading)) (last : Option ℕ) (plan left : List PlannedSet) (set : PlannedSet)
-    (entry : SentSet) → IsPlan script profile sets
-    → sets ≡ reverse plan ++ (set ∷ left) → last_time anchor past ≡ last
-    → AreAheadOf anchor last (set ∷ left) → (comes : SetComes script set sent)
-    → IsIdle profile anchor past → HoldsEach script profile anchor sets past
-    → is_entry_state set.state ≡ true
-    → entry.time ≡ set.pts → IsEntered script profile anchor sets (reading_of comes ∷ past) plan left set entry
-first_entered script profile anchor sets past last plan left set entry is_plan parts before ahead comes idle holds
-    whole_state time = record {
-      latest = comes.contents;
-      older = sets_since profile anchor past;
-      are = shown.sets;
-      run = run;
-      last = last_is anchor past comes lifted;
-      come = omega (arith, time);
-      shows = shows;
-      holds =
-          holds_next script profile anchor sets (λ number set. Unit {0}) past plan left set (reading_of comes) is_plan
-          parts lifted (λ come. kept_holds profile anchor past plan set comes.contents (reading_of comes) kept shown)
-          holds;
-      top =
-          record {
-            delivery = reading_of comes;
-            before = past;
-            placed = refl;
-            lifted = lifted;
-            shown = λ from. shown.verdict;
-            kept = inl shown.verdict;
-            painted = painted_as script profile anchor past comes
-                lifted (inl shown.verdict);
-          };
-    }
+first_entered : (listening : Listening) (past : List (Delivery Reading)) {last : Option ℕ}
+    (plan left : List PlannedSet) (set : PlannedSet) {sent : TimedSet} (entry : SentSet)
+    → (here : Comes listening past last plan left set sent)
+    → Waits listening past → is_entry_state set.state ≡ true → entry.time ≡ set.pts
+    → IsEntered listening.script listening.profile listening.anchor listening.sets (reading_of here.come ∷ past) plan
+    left set entry
+first_entered listening past {last} plan left set entry here wait whole_state time = record {
+  latest = here.come.contents;
+  older = sets_since listening.profile listening.anchor past;
+  are = shown.sets;
+  run = run;
+  last = last_is listening.anchor past here.come lifted;
+  come = omega (arith, time);
+  shows = shows;
+  holds =
+      holds_next listening.script listening.profile listening.anchor listening.sets (λ number set. Unit {0}) past plan
+      left set (reading_of here.come) listening.is_plan
+      here.parts lifted (λ come. kept_holds listening.profile listening.anchor past plan set here.come.contents
+      (reading_of here.come) kept shown)
+      wait.holds;
+  top =
+      record {
+        delivery = reading_of here.come;
+        before = past;
+        placed = refl;
+        lifted = lifted;
+        shown = λ from. shown.verdict;
+        kept = inl shown.verdict;
+        painted = painted_as listening.script listening.profile listening.anchor past here.come
+            lifted (inl shown.verdict);
+      };
+}
   where
-    lifted : lifted_time anchor past (reading_of comes) ≡ Some set.pts
-    lifted = kept_at anchor last past comes before ahead.0 ahead.1
+    lifted : lifted_time listening.anchor past (reading_of here.come) ≡ Some set.pts
+    lifted = kept_at listening.anchor last past here.come here.before here.ahead.0 here.ahead.1
 
-    run : IsRun script (set ∷ plan) (comes.contents ∷ sets_since profile anchor past)
-    run = begins comes.epoch comes.found whole_state (inr idle.unknown) comes.is
+    run : IsRun listening.script (set ∷ plan) (here.come.contents ∷ sets_since listening.profile listening.anchor past)
+    run = begins here.come.epoch here.come.found whole_state (inr wait.idle.unknown) here.come.is
 
-    whole : sets ≡ reverse (set ∷ plan) ++ left
-    whole = parts ∙ sym (turned_more plan left set)
+    whole : listening.sets ≡ reverse (set ∷ plan) ++ left
+    whole = here.parts ∙ sym (turned_more plan left set)
 
-    kept : RunKeeps script profile plan set comes.contents (sets_since profile anchor past)
+    kept : RunKeeps listening.script listening.profile plan set here.come.contents
+        (sets_since listening.profile listening.anchor past)
     kept =
-        run_keeps script profile sets (fair script) is_plan (set ∷ plan)
-        (comes.contents ∷ sets_since profile anchor past) run left whole
+        run_keeps listening.script listening.profile listening.sets (fair listening.script) listening.is_plan
+        (set ∷ plan)
+        (here.come.contents ∷ sets_since listening.profile listening.anchor past) run left whole
 
-    shown : IsShownSet script profile anchor past plan set comes.contents (reading_of comes) kept
-    shown = shown_set profile anchor past plan comes kept lifted
+    shown : IsShownSet listening.script listening.profile listening.anchor past plan set here.come.contents
+        (reading_of here.come) kept
+    shown = shown_set listening.profile listening.anchor past plan here.come kept lifted
 
     shows : (tick : ℕ) → IsBefore tick left
-        → IsShownFrom (Some entry) tick (view_at profile anchor tick (reading_of comes ∷ past))
-        (authored_view script tick)
+        → IsShownFrom (Some entry) tick (view_at listening.profile listening.anchor tick (reading_of here.come ∷ past))
+        (authored_view listening.script tick)
     shows tick early = (
       λ soon. (let sooner : tick
-          < set.pts = omega (arith, soon, time) in subst IsClear (sym (shown.before tick sooner)) (idle.clear tick)),
+          < set.pts = omega (arith, soon, time) in subst IsClear (sym (shown.before tick sooner))
+          (wait.idle.clear tick)),
       λ from. (let later : set.pts ≤ tick = omega (arith, from, time) in
-          subst (λ (view : View). Agrees view (authored_view script tick)) (sym (shown.from tick later))
-          (run_shows script profile sets plan left set comes.contents (sets_since profile anchor past) is_plan whole
+          subst (λ (view : View). Agrees view (authored_view listening.script tick)) (sym (shown.from tick later))
+          (run_shows listening.script listening.profile listening.sets plan left set here.come.contents
+          (sets_since listening.profile listening.anchor past) listening.is_plan whole
           kept tick later early)),
     )
 
@@ -331,71 +398,71 @@ entry_later missed table number anchor time (set ∷ left) ahead from =
     by false at again = again at
 
 -- the sets of a plan that are left, where no epoch is known
-pub wait_for : (script : Script) (profile : Profile) (anchor missed : ℕ) (table : Timetable) (number : ℕ)
-    (sets : List PlannedSet) (taken : List (Delivery (List ℕ))) (past : List (Delivery Reading)) (last : Option ℕ)
-    (plan left : List PlannedSet) (sent : List TimedSet)
-    → IsPlan script profile sets → sets ≡ reverse plan ++ left → last_time anchor past ≡ last
-    → AreAheadOf anchor last left → AreFrom missed table number left → AllZip (SetComes script) left sent
-    → AreDeliveriesRead taken past
-    → IsIdle profile anchor past → HoldsEach script profile anchor sets past
-    → IsReceivedSo script profile anchor sets past left (turned (map delivered sent) taken)
+pub wait_for : (listening : Listening) (missed : ℕ) (table : Timetable) (number : ℕ) (came : Came) (last : Option ℕ)
+    (plan left : List PlannedSet) (sent : List TimedSet) → last_time listening.anchor came.past ≡ last
+    → AreLeftOf listening last plan left sent → AreFrom missed table number left → Waits listening came.past
+    → SoReceived listening came.past left (turned (map delivered sent) came.taken)
     (entry_set missed (sent_from table number left))
-wait_for script profile anchor missed table number sets taken past last plan [] [] is_plan parts before ahead from come
-    read idle
-    holds = record {
-      past = past;
-      read = read;
-      shows = λ tick. idle.clear tick;
-      holds = holds;
-      more = [];
-      over = refl;
-      kept = tt;
-      painted = tt;
-    }
-wait_for script profile anchor missed table number sets taken past last plan [] (one ∷ sent) is_plan parts before
-    ahead from come read idle holds = absurd come
-wait_for script profile anchor missed table number sets taken past last plan (set ∷ left) [] is_plan parts before
-    ahead from come read idle holds = absurd come
-wait_for script profile anchor missed table number sets taken past last plan (set ∷ left) (one ∷ sent) is_plan parts
-    before ahead from come read idle holds =
+wait_for listening missed table number came last plan [] [] before are from wait = record {
+  past = came.past;
+  read = came.read;
+  shows = λ tick. wait.idle.clear tick;
+  holds = wait.holds;
+  more = [];
+  over = refl;
+  kept = tt;
+  painted = tt;
+}
+wait_for listening missed table number came last plan [] (one ∷ sent) before are from wait = absurd are.come
+wait_for listening missed table number came last plan (set ∷ left) [] before are from wait = absurd are.come
+wait_for listening missed table number came last plan (set ∷ left) (one ∷ sent) before are from wait =
     by (is_entry_state set.state) refl
-    (λ normal. with_one script profile anchor sets past (reading_of come.0) set left
-    (turned (map delivered sent) (delivered one ∷ taken)) (entry_set missed (sent_from table (number + 1) left))
-    (waiting normal)
-    (wait_for script profile anchor missed table (number + 1) sets (delivered one ∷ taken)
-    (reading_of come.0 ∷ past) (Some set.pts) (set ∷ plan) left sent is_plan whole
-    (last_is anchor past come.0 lifted) ahead.2 from.1 come.1 (is_read come.0, read)
-    (still_idle profile anchor past come.0 idle lifted normal)
-    (holds_next script profile anchor sets (λ number set. Unit {0}) past plan left set (reading_of come.0) is_plan
-    parts lifted
-    (λ own known found. absurd (none_with (still_idle profile anchor past come.0 idle lifted normal) known found))
-    holds)))
+    (λ normal. with_one listening (waiting normal)
+    (wait_for listening missed table (number + 1) (with_set listening.script came set one come) (Some set.pts)
+    (set ∷ plan) left sent (last_is anchor past come lifted)
+    (left_behind listening last plan left set one sent are) from.1
+    (record {
+      idle = still_idle profile anchor past come wait.idle lifted normal;
+      holds =
+          holds_next listening.script profile anchor listening.sets (λ number set. Unit {0}) past plan left set
+          (reading_of come) listening.is_plan are.parts lifted
+          (λ own known found.
+          absurd (none_with (still_idle profile anchor past come wait.idle lifted normal) known found)) wait.holds;
+    })))
   where
-    lifted : lifted_time anchor past (reading_of come.0) ≡ Some set.pts
-    lifted = kept_at anchor last past come.0 before ahead.0 ahead.1
+    profile : Profile
+    profile = listening.profile
 
-    whole : sets ≡ reverse (set ∷ plan) ++ left
-    whole = parts ∙ sym (turned_more plan left set)
+    anchor : ℕ
+    anchor = listening.anchor
+
+    past : List (Delivery Reading)
+    past = came.past
+
+    come : SetComes listening.script set one
+    come = are.come.0
+
+    lifted : lifted_time anchor past (reading_of come) ≡ Some set.pts
+    lifted = kept_at anchor last past come before are.ahead.0 are.ahead.1
 
     Behind : Option SentSet → Type 0
     Behind entry =
-        IsReceivedSo script profile anchor sets past (set ∷ left)
-        (turned (map delivered sent) (delivered one ∷ taken)) entry
+        SoReceived listening past (set ∷ left) (turned (map delivered sent) (delivered one ∷ came.taken)) entry
 
     waiting : is_entry_state set.state ≡ false
-        → IsOnTop script profile anchor (entry_set missed (sent_from table (number + 1) left))
-        (reading_of come.0 ∷ past) set
+        → IsOnTop listening.script profile anchor (entry_set missed (sent_from table (number + 1) left))
+        (reading_of come ∷ past) set
     waiting normal =
-        let waits = waits_with profile anchor past come.0 idle.unknown lifted normal in
+        let waits = waits_with profile anchor past come wait.idle.unknown lifted normal in
         record {
-          delivery = reading_of come.0;
+          delivery = reading_of come;
           before = past;
           placed = refl;
           lifted = lifted;
           shown = λ from. absurd
-              (entry_later missed table (number + 1) anchor set.pts left ahead.2 from);
+              (entry_later missed table (number + 1) anchor set.pts left are.ahead.2 from);
           kept = inr waits;
-          painted = painted_as script profile anchor past come.0 lifted (inr waits);
+          painted = painted_as listening.script profile anchor past come lifted (inr waits);
         }
 
     by : (state : Bool) → is_entry_state set.state ≡ state
@@ -414,9 +481,8 @@ wait_for script profile anchor missed table number sets taken past last plan (se
         ∙ ap (λ b. cond b (Some (sent_set table number set)) (entry_set missed (sent_from table (number + 1) left)))
         from.0 in
         subst Behind (sym entry)
-        (let first = first_entered script profile anchor sets past last plan left set (sent_set table number set)
-        is_plan parts before ahead come.0 idle holds is refl in
-        with_one script profile anchor sets past (reading_of come.0) set left
-        (turned (map delivered sent) (delivered one ∷ taken)) (Some (sent_set table number set)) first.top
-        (go_on script profile anchor sets (delivered one ∷ taken) (reading_of come.0 ∷ past) plan left sent set
-        (sent_set table number set) is_plan whole ahead.2 come.1 (is_read come.0, read) first))
+        (let first = first_entered listening past plan left set (sent_set table number set)
+        (comes_here listening past last plan left set one sent before are) wait is refl in
+        with_one listening first.top
+        (go_on listening (with_set listening.script came set one come) plan left sent set (sent_set table number set)
+        (left_behind listening last plan left set one sent are) first))

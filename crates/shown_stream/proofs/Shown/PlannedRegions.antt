@@ -12,7 +12,7 @@ use Rattle.cue_list.specs.declared.epoch.Region.{Region}
 use Rattle.cue_list.specs.declared.script.Script.{Script}
 use Rattle.page_epoch.specs.Live.{live_places}
 use Rattle.page_epoch.specs.Plan.{IsPlan}
-use Rattle.page_epoch.specs.Sendable.{IsSendable}
+use Rattle.page_epoch.specs.Sendable.{IsOfItsEpoch}
 use Rattle.page_epoch.specs.SentRegions.{is_redrawn, is_extended, filled, extended, region_version, live_before, sent_region, AreSentRegions}
 use Rattle.page_epoch.specs.EpochWalks.{IsNumbered}
 use Rattle.page_epoch.specs.declared.planned_set.PlannedSet.{PlannedSet}
@@ -90,8 +90,8 @@ planned_well script profile sets number set plan found =
     let right =
     plain script.origin script.width script.height script.refresh script.epochs script.pictures script.sound in
     let all = sendable_all script profile sets right plan.planned in
-    let one : IsSendable script set =
-    subst (IsSendable script) (get_or_from_slice_get sets number set set found)
+    let one : IsOfItsEpoch script set =
+    subst (IsOfItsEpoch script) (get_or_from_slice_get sets number set set found)
     (all number set (slice_get_within sets number set found)) in
     let next = plan.planned.first.each number set found in
     let short = slice_get_within script.epochs set.epoch next.epoch next.place.found in

@@ -17,7 +17,7 @@ use Rattle.page_epoch.specs.declared.planned_set.PlannedSet.{PlannedSet}
 use Rattle.page_epoch.specs.declared.planned_set.SentClut.{SentClut}
 use Rattle.page_epoch.specs.declared.planned_set.SentRegion.{SentRegion}
 use Rattle.decoder_model.specs.Faults.{contents_in, segment_fault}
-use Rattle.decoder_model.specs.Readings.{Content, read, AreFields, AreReadings}
+use Rattle.decoder_model.specs.Readings.{Content, read, AreObjectFields, AreReadings}
 use Rattle.decoder_model.proofs.Depths.{parts_in_eight, none_too_deep}
 use Rattle.segments.proofs.Spellings.{written_segment}
 use Rattle.set_coder.specs.SetSegments as planned
@@ -34,7 +34,7 @@ use Rattle.shown_stream.proofs.Shown.DrawnObject.{object_draws}
 
 -- the sub-blocks of a content are those of its segment
 abbrev HasFields : Content → Type 0
-HasFields content = AreFields content.value content.top content.bottom
+HasFields content = AreObjectFields content.value content.top content.bottom
 
 abbrev values_of : List Content → List SegmentValue
 values_of contents = map (λ (content : Content). content.value) contents

@@ -7,7 +7,7 @@ use Rattle.sub_base.specs.Colour.{clear}
 use Rattle.sub_base.specs.Picture.{Picture, IsPicture}
 use Rattle.sub_base.specs.declared.depth.Depth.TheVariants.{Eight}
 use Rattle.cue_list.specs.Authored.{authored_at, latest_row}
-use Rattle.cue_list.specs.Sound.{IsSound, IsEpoch, IsTick, IsRegion, AreApart, IsColourRow, IsCue, Follows, AreTicksApart}
+use Rattle.cue_list.specs.Sound.{IsSoundScript, IsEpoch, IsTick, IsRegion, AreSeparate, IsColourRow, IsCue, Follows, AreTicksApart}
 use Rattle.cue_list.specs.declared.epoch.Cue.{Cue}
 use Rattle.cue_list.specs.declared.epoch.Epoch.{Epoch}
 use Rattle.cue_list.specs.declared.epoch.Region.{Region}
@@ -57,7 +57,7 @@ apart =
     (AllPairs-cons AreTicksApart 90000 (180000 ∷ []) (All-one (AreTicksApart 90000) 180000 (inr (inl (omega arith))))
     (one_pair AreTicksApart 180000))
 
-pub is_sound : IsSound 0 4 2 450000 (epoch ∷ []) (picture ∷ [])
+pub is_sound : IsSoundScript 0 4 2 450000 (epoch ∷ []) (picture ∷ [])
 is_sound = record {
   early = omega arith;
   wide = (omega arith, omega arith);
@@ -80,7 +80,7 @@ is_sound = record {
             across = omega arith;
             down = omega arith;
           });
-      apart = one_pair AreApart region;
+      apart = one_pair AreSeparate region;
     };
     colours = All-nil (IsColourRow 0 90000);
     cues =

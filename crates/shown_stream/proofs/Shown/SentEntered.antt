@@ -8,13 +8,11 @@ use Rattle.std.proofs.lemmas.List.Elements.{recursion_from_All}
 use Rattle.sub_base.specs.Pace.{pace_of}
 use Rattle.sub_base.specs.Profile.{profile_of}
 use Rattle.sub_base.specs.declared.pace.Pace.{Pace}
-use Rattle.sub_base.specs.declared.profile.ProfileName.{ProfileName}
 use Rattle.stream_syntax.specs.declared.wire.TheConstants.{NULL_PID, TIME_ROUND}
 use Rattle.stream_syntax.specs.Segments.{end_of_set}
 use Rattle.cue_list.specs.Sound.{IsTick}
 use Rattle.cue_list.specs.declared.script.Script.{Script}
 use Rattle.page_epoch.specs.declared.planned_set.PlannedSet.{PlannedSet}
-use Rattle.schedule.specs.Slots.{Timetable}
 use Rattle.decoder_model.specs.declared.pages.Pages.{Pages}
 use Rattle.sent_sets.specs.RawSets.{RawSet, counted_in, has_counted, HaveTimesApart}
 use Rattle.sent_sets.specs.SentStream.{AreSentFor}
@@ -23,7 +21,7 @@ use Rattle.sent_sets.proofs.SentLists.{AreRawSent}
 use Rattle.sent_sets.proofs.Units.{TimedSet, counted_set}
 use Rattle.shown_stream.specs.Entered.{IsEnteredRightly}
 use Rattle.shown_plan.proofs.Segments.ByPlace.{some_segments}
-use Rattle.shown_stream.specs.SentPlan.{IsWrittenAs, CarriesSet, HasPageFirst, IsSentPlan}
+use Rattle.shown_stream.specs.SentPlan.{IsWrittenAs, CarriesSet, HasPageFirst, IsSentPlan, SentPlan}
 use Rattle.shown_stream.proofs.Late.LatePlan.{IsPlannedUnits, planned_units, zip_some, IsPlanSent, plan_sent}
 use Rattle.shown_stream.proofs.Sent.PlannedOrder.{rest_rises}
 use Rattle.shown_stream.proofs.Sent.PlannedTimes.{pts_of, times_in_span, pts_rise, differ}
@@ -97,44 +95,45 @@ all_planned script pages (planned ∷ sets) (set ∷ raw) (packets ∷ units) (o
 
 -- ---- entered
 
-pub sent_entered : (profile : ProfileName) (pid : ℕ) (pages : Pages) (script : Script) (sets : List PlannedSet)
-    (table : Timetable) (packets : List (List ℕ)) (missed : ℕ) → pid < NULL_PID
-    → All (λ packet. length packet ≡ 188) packets
-    → IsSentPlan profile pid pages script sets table (concat packets)
-    → IsEnteredRightly profile pid pages script sets table packets missed
-sent_entered profile pid pages script sets table packets missed less whole h =
-    entered_rightly profile pid pages script table sets packets (map counted_set stream.timed) known missed
+pub sent_entered : (sending : SentPlan) (packets : List (List ℕ)) (missed : ℕ) → sending.pid < NULL_PID
+    → All (λ packet. length packet ≡ 188) packets → IsSentPlan sending (concat packets)
+    → IsEnteredRightly sending packets missed
+sent_entered sending packets missed less whole h =
+    entered_rightly sending packets (map counted_set stream.timed) known missed
   where
     pace : Pace
-    pace = pace_of script.origin (profile_of profile)
+    pace = pace_of sending.script.origin (profile_of sending.profile)
 
-    times : pts_of sets ≡ times_of h.raw
-    times = same_times script pages sets h.raw h.carries
+    times : pts_of sending.sets ≡ times_of h.raw
+    times = same_times sending.script sending.pages sending.sets h.raw h.carries
 
-    for_pages : AreSentFor pages pace pid h.raw h.loads table packets
-    for_pages = record {
+    sent_for : AreSentFor sending.pages pace sending.pid h.raw h.loads sending.table packets
+    sent_for = record {
       free = less;
       sendable = h.sendable;
       ends = h.ends;
-      apart = subst HaveTimesApart (sym (all_counted script pages sets h.raw h.carries))
-          (times_apart script.origin h.raw
-          (subst IsStrictlyIncreasing times (pts_rise script (profile_of profile) sets h.plan))
-          (subst (AllByRecursion (IsTick script.origin)) times
-          (times_in_span script (profile_of profile) sets h.plan)));
+      apart = subst HaveTimesApart (sym (all_counted sending.script sending.pages sending.sets h.raw h.carries))
+          (times_apart sending.script.origin h.raw
+          (subst IsStrictlyIncreasing times (pts_rise sending.script (profile_of sending.profile) sending.sets h.plan))
+          (subst (AllByRecursion (IsTick sending.script.origin)) times
+          (times_in_span sending.script (profile_of sending.profile) sending.sets h.plan)));
       sent = h.sent;
       whole = whole;
     }
 
-    stream : IsKnownStream pages pace pid h.raw h.loads table packets h.sent.units
-    stream = known_stream pages pace pid h.raw h.loads table packets for_pages
+    stream : IsKnownStream sending.pages pace sending.pid h.raw h.loads sending.table packets h.sent.units
+    stream = known_stream sending.pages pace sending.pid h.raw h.loads sending.table packets sent_for
 
-    known : IsPlanSent (profile_of profile).coded pid pages (profile_of profile) script table sets packets
+    known : IsPlanSent (profile_of sending.profile).coded sending.pid sending.pages (profile_of sending.profile)
+        sending.script sending.table sending.sets packets
         (map counted_set stream.timed)
     known =
-        subst (λ (all : List (List ℕ)). IsPlanSent (profile_of profile).coded pid pages (profile_of profile) script
-        table
-        sets all (map counted_set stream.timed)) (sym stream.are)
-        (plan_sent (profile_of profile).coded pid pages (profile_of profile) script h.loads h.sent.units pace table sets
-        stream.timed (is_free pid less) stream.stream stream.sent h.plan
-        (all_planned script pages sets h.raw h.sent.units stream.timed h.carries
-        (recursion_from_All (HasPageFirst pages) h.raw h.page_first) stream.known.are))
+        subst (λ (all : List (List ℕ)). IsPlanSent (profile_of sending.profile).coded sending.pid sending.pages
+        (profile_of sending.profile) sending.script
+        sending.table
+        sending.sets all (map counted_set stream.timed)) (sym stream.are)
+        (plan_sent (profile_of sending.profile).coded sending.pid sending.pages (profile_of sending.profile)
+        sending.script h.loads h.sent.units pace sending.table sending.sets
+        stream.timed (is_free sending.pid less) stream.stream stream.sent h.plan
+        (all_planned sending.script sending.pages sending.sets h.raw h.sent.units stream.timed h.carries
+        (recursion_from_All (HasPageFirst sending.pages) h.raw h.page_first) stream.known.are))

@@ -12,8 +12,7 @@ use Rattle.std.proofs.lemmas.List.{map-append, take-append-drop, reverse-reverse
 use Rattle.std.proofs.lemmas.Option.{slice_get_within}
 use Rattle.sub_base.specs.Profile.{profile_of}
 use Rattle.sub_base.specs.declared.profile.Profile.{Profile}
-use Rattle.sub_base.specs.declared.profile.ProfileName.{ProfileName}
-use Rattle.cue_list.specs.Sound.{IsSound, IsTick}
+use Rattle.cue_list.specs.Sound.{IsSoundScript, IsTick}
 use Rattle.cue_list.specs.declared.limits.TheConstants.{LATEST_ORIGIN}
 use Rattle.cue_list.specs.declared.script.Script.{Script}
 use Rattle.page_epoch.specs.Plan.{IsPlan}
@@ -23,8 +22,8 @@ use Rattle.schedule.specs.Slots.{Timetable, slots_of}
 use Rattle.decoder_model.specs.Kept.{last_time, lifted_behind, lifted_time, epoch_of}
 use Rattle.decoder_model.specs.Painting.{painting_by}
 use Rattle.decoder_model.specs.Readings.{Reading, AreReadings, IsDeliveryRead, AreDeliveriesRead}
-use Rattle.decoder_model.specs.Received.{HasReceived}
-use Rattle.decoder_model.specs.Sets.{Delivery, whole, sets_of}
+use Rattle.decoder_model.specs.Received.{HasReceived, sets_received}
+use Rattle.decoder_model.specs.Sets.{Delivery, whole}
 use Rattle.decoder_model.specs.Shown.{IsClear, view_at}
 use Rattle.decoder_model.specs.Streams.{SentSet, is_from, entry_set, entered_at, IsShownFrom}
 use Rattle.decoder_model.specs.Verdict.{verdict_of, sets_since}
@@ -54,6 +53,7 @@ use Rattle.decoder_model.specs.declared.pages.Pages.{Pages}
 use Rattle.decoder_model.specs.declared.set_fault.SetFault.{SetFault}
 use Rattle.shown_stream.proofs.Late.LateRest.{IsBrokenFirst, comes_broken}
 use Rattle.shown_stream.proofs.Late.LatePlan.{IsCutSet, IsEnteredLate, IsPlanSent}
+use Rattle.shown_stream.specs.SentPlan.{SentPlan, received_with}
 
 -- ---- what comes before the sets that come whole
 
@@ -119,7 +119,7 @@ low_prop origin = hlevel props
 pub low_origin : (script : Script) → script.origin ≤ LATEST_ORIGIN
 low_origin script =
     ∥∥₁_elim script.sound (low_prop script.origin)
-    (λ (sound : IsSound script.origin script.width script.height script.refresh script.epochs
+    (λ (sound : IsSoundScript script.origin script.width script.height script.refresh script.epochs
     script.pictures). sound.early)
 
 -- the sets of a plan, and where a receiver enters it
@@ -271,16 +271,16 @@ all_turned rest sent =
 
 -- what a receiver has got of the sets of a plan that it enters behind so many packets, what is shown of it, and what it
 -- holds
-pub record IsReceivedLate (profile : Profile) (pid : ℕ) (pages : Pages) (script : Script) (table : Timetable)
-    (sets : List PlannedSet) (packets : List (List ℕ)) (missed anchor : ℕ) : Type 0 where
+pub record IsReceivedLate (sending : SentPlan) (packets : List (List ℕ)) (missed anchor : ℕ) : Type 0 where
   pub past : List (Delivery Reading)
-  pub received : HasReceived profile pid pages true (entered_at missed packets) past
-  pub shows : (tick : ℕ) → IsShownFrom (entry_set missed (sent_sets table sets)) tick
-      (view_at profile anchor tick past) (authored_view script tick)
-  pub holds : HoldsEach script profile anchor sets past
-  pub kept : (number : ℕ) (set : PlannedSet) → slice_get sets number ≡ Some set
-      → is_from missed (sent_set table number set) ≡ true
-      → IsKept profile anchor (IsFromEntry (entry_set missed (sent_sets table sets))) past set
+  pub received : HasReceived (received_with sending anchor) true (entered_at missed packets) past
+  pub shows : (tick : ℕ) → IsShownFrom (entry_set missed (sent_sets sending.table sending.sets)) tick
+      (view_at (profile_of sending.profile) anchor tick past) (authored_view sending.script tick)
+  pub holds : HoldsEach sending.script (profile_of sending.profile) anchor sending.sets past
+  pub kept : (number : ℕ) (set : PlannedSet) → slice_get sending.sets number ≡ Some set
+      → is_from missed (sent_set sending.table number set) ≡ true
+      → IsKept (profile_of sending.profile) anchor
+      (IsFromEntry (entry_set missed (sent_sets sending.table sending.sets))) past set
 
 -- the sets behind the first so many of a plan
 found_behind : (P : PlannedSet → Type 0) (first number : ℕ) (sets : List PlannedSet) (set : PlannedSet)
@@ -353,95 +353,109 @@ comes_in_parts profile pid pages script table sets packets sent known missed anc
         (turned (map delivered (drop late.first sent)) (turned (map delivered late.rest) []))
         (entry_set missed (sent_from table late.first (drop late.first sets)))
     received =
-        wait_for script profile anchor missed table late.first sets (turned (map delivered late.rest) []) begun.past
-        begun.last (reverse (take late.first sets)) (drop late.first sets) (drop late.first sent) known.plan parts
-        begun.is_last begun.ahead from come begun.read begun.idle begun.holds
+        wait_for
+        (record { script = script; profile = profile; anchor = anchor; sets = sets; is_plan = known.plan }) missed
+        table late.first
+        (record { taken = turned (map delivered late.rest) []; past = begun.past; read = begun.read }) begun.last
+        (reverse (take late.first sets)) (drop late.first sets) (drop late.first sent) begun.is_last
+        (record { parts = parts; ahead = begun.ahead; come = come }) from
+        (record { idle = begun.idle; holds = begun.holds })
 
-pub received_late : (profile : Profile) (pid : ℕ) (pages : Pages) (script : Script) (table : Timetable)
-    (sets : List PlannedSet) (packets : List (List ℕ)) (sent : List TimedSet)
-    → IsPlanSent profile.coded pid pages profile script table sets packets sent → (missed anchor : ℕ)
-    → IsAnchorOf (first_times_from missed (sent_sets table sets)) anchor
-    → IsReceivedLate profile pid pages script table sets packets missed anchor
-received_late profile pid pages script table sets packets sent known missed anchor suits = record {
+pub received_late : (sending : SentPlan) (packets : List (List ℕ)) (sent : List TimedSet)
+    → IsPlanSent (profile_of sending.profile).coded sending.pid sending.pages (profile_of sending.profile)
+    sending.script sending.table sending.sets packets sent
+    → (missed anchor : ℕ) → IsAnchorOf (first_times_from missed (sent_sets sending.table sending.sets)) anchor
+    → IsReceivedLate sending packets missed anchor
+received_late sending packets sent known missed anchor suits = record {
   past = received.past;
   received =
       subst (λ (all : List (Delivery (List ℕ))). AreDeliveriesRead all received.past)
       (all_turned late.rest (drop late.first sent) ∙ ap reverse (sym late.come)) received.read;
   shows = λ tick. subst
       (λ (found : Option SentSet). IsShownFrom found tick (view_at profile anchor tick received.past)
-      (authored_view script tick)) (sym behind) (received.shows tick);
+      (authored_view sending.script tick)) (sym behind) (received.shows tick);
   holds = received.holds;
   kept = λ number set found from. subst
       (λ (entry : Option SentSet). IsKept profile anchor (IsFromEntry entry) received.past set) (sym behind)
       (found_behind
-      (IsKept profile anchor (IsFromEntry (entry_set missed (sent_from table late.first (drop late.first sets))))
+      (IsKept profile anchor
+      (IsFromEntry (entry_set missed (sent_from sending.table late.first (drop late.first sending.sets))))
       received.past)
-      late.first number sets set received.kept found (among number set found from (cases_lt number late.first)));
+      late.first number sending.sets set received.kept found
+      (among number set found from (cases_lt number late.first)));
 }
   where
-    late : IsEnteredLate profile.coded pid pages script table sets packets sent missed
+    profile : Profile
+    profile = profile_of sending.profile
+
+    late : IsEnteredLate profile.coded sending.pid sending.pages sending.script sending.table sending.sets packets sent
+        missed
     late = known.late missed
 
-    both : ComesInParts profile script table sets sent late.rest late.first missed anchor
-    both = comes_in_parts profile pid pages script table sets packets sent known missed anchor suits late
+    both : ComesInParts profile sending.script sending.table sending.sets sent late.rest late.first missed anchor
+    both =
+        comes_in_parts profile sending.pid sending.pages sending.script sending.table sending.sets packets sent known
+        missed anchor suits late
 
-    received : IsReceivedSo script profile anchor sets both.begun.past (drop late.first sets)
+    received : IsReceivedSo sending.script profile anchor sending.sets both.begun.past (drop late.first sending.sets)
         (turned (map delivered (drop late.first sent)) (turned (map delivered late.rest) []))
-        (entry_set missed (sent_from table late.first (drop late.first sets)))
+        (entry_set missed (sent_from sending.table late.first (drop late.first sending.sets)))
     received = both.come
 
-    among : (number : ℕ) (set : PlannedSet) → slice_get sets number ≡ Some set
-        → is_from missed (sent_set table number set) ≡ true → (number < late.first) ⊎ (late.first ≤ number)
+    among : (number : ℕ) (set : PlannedSet) → slice_get sending.sets number ≡ Some set
+        → is_from missed (sent_set sending.table number set) ≡ true → (number < late.first) ⊎ (late.first ≤ number)
         → late.first ≤ number
     among number set found from (inl before) =
         absurd
-        (let no : false ≡ true = sym ((late.whole number set (slice_get_within sets number set found)).0 before)
+        (let no : false ≡ true = sym ((late.whole number set (slice_get_within sending.sets number set found)).0 before)
         ∙ from
         in cc)
     among number set found from (inr behind) = behind
 
-    behind : entry_set missed (sent_sets table sets)
-        ≡ entry_set missed (sent_from table late.first (drop late.first sets))
+    behind : entry_set missed (sent_sets sending.table sending.sets)
+        ≡ entry_set missed (sent_from sending.table late.first (drop late.first sending.sets))
     behind =
-        entry_behind missed table late.first 0 sets
-        (λ i set inside found. ap (λ n. is_from missed (sent_set table n set)) (omega arith)
-        ∙ (late.whole i set (slice_get_within sets i set found)).0 inside)
-        ∙ ap (λ n. entry_set missed (sent_from table n (drop late.first sets))) (omega arith)
+        entry_behind missed sending.table late.first 0 sending.sets
+        (λ i set inside found. ap (λ n. is_from missed (sent_set sending.table n set)) (omega arith)
+        ∙ (late.whole i set (slice_get_within sending.sets i set found)).0 inside)
+        ∙ ap (λ n. entry_set missed (sent_from sending.table n (drop late.first sending.sets))) (omega arith)
 
 -- so sets of a plan that are sent for a receiver of some pages are entered rightly, behind any number of packets:
 -- nothing is shown before the time of the entry set, and from then on what the script authors; each set that comes
 -- whole is kept, and behind it the page memory holds the script
-pub entered_rightly : (name : ProfileName) (pid : ℕ) (pages : Pages) (script : Script) (table : Timetable)
-    (sets : List PlannedSet) (packets : List (List ℕ)) (sent : List TimedSet)
-    → IsPlanSent (profile_of name).coded pid pages (profile_of name) script table sets packets sent → (missed : ℕ)
-    → IsEnteredRightly name pid pages script sets table packets missed
-entered_rightly name pid pages script table sets packets sent known missed = record {
+pub entered_rightly : (sending : SentPlan) (packets : List (List ℕ)) (sent : List TimedSet)
+    → IsPlanSent (profile_of sending.profile).coded sending.pid sending.pages (profile_of sending.profile)
+    sending.script sending.table sending.sets packets sent
+    → (missed : ℕ) → IsEnteredRightly sending packets missed
+entered_rightly sending packets sent known missed = record {
   shown = λ anchor suits tick.
-      let late = received_late profile pid pages script table sets packets sent known missed anchor suits in
+      let late = received_late sending packets sent known missed anchor suits in
       record {
         shown = view_at profile anchor tick late.past;
         is_shown = record { past = late.past; received = late.received; is_view = refl };
         from_entry = late.shows tick;
       };
   kept = λ anchor suits past received number set found from.
-      let late = received_late profile pid pages script table sets packets sent known missed anchor suits in
+      let late = received_late sending packets sent known missed anchor suits in
       subst (λ (all : List (Delivery Reading)). IsKept profile anchor
-      (IsFromEntry (entry_set missed (sent_sets table sets))) all set)
+      (IsFromEntry (entry_set missed (sent_sets sending.table sending.sets))) all set)
       (same anchor suits past received) (late.kept number set found from);
   held = λ anchor suits past received.
       λ later before delivery placed front back set parts come lifted known_epoch is.
-      let late = received_late profile pid pages script table sets packets sent known missed anchor suits in
+      let late = received_late sending packets sent known missed anchor suits in
       late.holds later before delivery (same anchor suits past received ∙ placed) front back set parts tt lifted
       known_epoch is;
 }
   where
     profile : Profile
-    profile = profile_of name
+    profile = profile_of sending.profile
 
-    same : (anchor : ℕ) (suits : IsAnchorOf (first_times_from missed (sent_sets table sets)) anchor)
-        → (past : List (Delivery Reading)) → HasReceived profile pid pages true (entered_at missed packets) past
-        → (received_late profile pid pages script table sets packets sent known missed anchor suits).past ≡ past
+    same : (anchor : ℕ) (suits : IsAnchorOf (first_times_from missed (sent_sets sending.table sending.sets)) anchor)
+        → (past : List (Delivery Reading))
+        → HasReceived (received_with sending anchor) true (entered_at missed packets) past
+        → (received_late sending packets sent known missed anchor suits).past ≡ past
     same anchor suits past received =
-        let late = received_late profile pid pages script table sets packets sent known missed anchor suits in
-        same_past (reverse (sets_of profile.coded pid pages true (entered_at missed packets))) late.past past
+        let late = received_late sending packets sent known missed anchor suits in
+        same_past (reverse (sets_received (received_with sending anchor) true (entered_at missed packets))) late.past
+        past
         late.received received

@@ -1,4 +1,5 @@
 -- Streams that are read from their sources and gone through, one after the other.
+use Rattle.decoder_model.specs.Received.{Reception}
 use Rattle.std.specs.Prelude.{ℕ, ◌+◌, ◌*◌, nat_lt, if◌then◌else◌, List, Option, Some, None}
 use Rattle.sub_base.specs.Counts.{HasRisenPast}
 use Rattle.sub_base.specs.Endpoints.{HasReadFault, Supplied, WasRead}
@@ -11,7 +12,7 @@ use Rattle.packet_source.specs.InHand.{whole_packets}
 use Rattle.packet_source.specs.declared.stream_end.StreamEnd.{StreamEnd}
 use Rattle.packet_source.specs.declared.stream_end.StreamEnd.TheVariants as stream
 use Rattle.stream_syntax.specs.declared.wire.TheConstants.{PACKET_LENGTH}
-use Rattle.set_receiver.specs.Receiving.{Receiving, Reception}
+use Rattle.set_receiver.specs.Receiving.{SetReceiving}
 use Rattle.splice.specs.Private.Surveyed.{IsGone, IsSurveyOf}
 use Rattle.splice.specs.declared.joined.Joined.{Joined}
 use Rattle.splice.specs.declared.limits.TheConstants.{SPLICE_LIMIT}
@@ -27,7 +28,7 @@ pub record IsInput (made : Reception) (part : Part) (before now : Supplied) (old
   pub is_survey : IsSurveyOf made part (whole_packets bytes) old new survey
 
 -- the source was read to its end, and its packets were gone through, before what comes ready at their end
-pub record HasReadThrough (made : Reception) (part : Part) (before now : Supplied) (receiving : Receiving)
+pub record HasReadThrough (made : Reception) (part : Part) (before now : Supplied) (receiving : SetReceiving)
     (start end : Joined) (survey : Survey) : Type 0 where
   pub bytes : List ℕ
   pub read : WasRead SPLICE_LIMIT before now bytes

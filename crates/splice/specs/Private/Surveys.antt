@@ -6,15 +6,16 @@ use Rattle.decoder_model.specs.Contents.{has_state}
 use Rattle.decoder_model.specs.Faults.{contents_in}
 use Rattle.decoder_model.specs.Kept.{lifted_time}
 use Rattle.decoder_model.specs.Readings.{Reading, IsDeliveryRead}
+use Rattle.decoder_model.specs.Received.{Reception}
 use Rattle.decoder_model.specs.Sets.{Delivery, lost, whole, refused}
 use Rattle.decoder_model.specs.Verdict.{verdict_of}
 use Rattle.decoder_model.specs.declared.set_end.SetEnd.{SetEnd}
 use Rattle.decoder_model.specs.declared.set_end.SetEnd.TheVariants.{Shown, Waiting, Broken, NotLater}
 use Rattle.sent_sets.specs.RawSets.{RawSet}
-use Rattle.set_receiver.specs.Receiving.{Receiving, Reception, reception}
+use Rattle.set_receiver.specs.Receiving.{SetReceiving, reception}
 use Rattle.set_receiver.specs.Taking.{HasPast}
 use Rattle.splice.specs.KeptSets.{kept_among, kept_sets, set_at}
-use Rattle.splice.specs.StreamTests.{AreShown, AreShownUpTo, BeginsAnew, IsFirstLost, IsFirstUnshown, IsLookedAt, IsLossless}
+use Rattle.splice.specs.StreamTests.{AreSetsShown, AreShownUpTo, BeginsAnew, IsFirstLost, IsFirstUnshown, IsLookedAt, IsLossless}
 use Rattle.splice.specs.Private.JoinedSets.{HasSets, IsJoinedOf}
 use Rattle.splice.specs.Private.Parts.{is_looked_at, placed, sent_time, shown_before}
 use Rattle.splice.specs.Private.Sendings.{IsSendingOf}
@@ -150,7 +151,7 @@ IsFoundSo made part earlier packets past before found joined (Lost packet) =
 
 -- the receiver was fed the packets, and this was found of them
 pub record HasFound (made : Reception) (part : Part) (earlier : List RawSet) (ended : Bool)
-    (packets : List (List ℕ)) (receiving : Receiving) (found : Found) (joined : Joined) : Type 0 where
+    (packets : List (List ℕ)) (receiving : SetReceiving) (found : Found) (joined : Joined) : Type 0 where
   pub own : reception receiving ≡ made
   pub low : made.anchor < 2 ^ 33
   pub few : length packets ≤ 2 ^ 26
@@ -159,13 +160,13 @@ pub record HasFound (made : Reception) (part : Part) (earlier : List RawSet) (en
   pub so : IsFoundSo made part earlier packets past (reverse has.given) found joined found.finding
 
 -- sets were taken
-pub record TakesSets (part : Part) (old new : Receiving) (was is : Found) (start end : Joined) : Type 0 where
+pub record TakesSets (part : Part) (old new : SetReceiving) (was is : Found) (start end : Joined) : Type 0 where
   pub goes : (made : Reception) (earlier : List RawSet) (ended : Bool) (packets : List (List ℕ))
       → HasFound made part earlier ended packets old was start
       → HasFound made part earlier ended packets new is end
 
 -- a packet was taken, with the sets that it made ready
-pub record TakesPacket (part : Part) (packet : List ℕ) (place : ℕ) (old new : Receiving) (was is : Found)
+pub record TakesPacket (part : Part) (packet : List ℕ) (place : ℕ) (old new : SetReceiving) (was is : Found)
     (start end : Joined) : Type 0 where
   pub goes : (made : Reception) (earlier : List RawSet) (packets : List (List ℕ)) → length packets ≡ place
       → HasFound made part earlier false packets old was start
@@ -177,7 +178,7 @@ pub record TakesPacket (part : Part) (packet : List ℕ) (place : ℕ) (old new 
 pub record IsGoodStream (made : Reception) (part : Part) (earlier : List RawSet) (packets : List (List ℕ))
     (found : Found) (joined : Joined) : Type 0 where
   pub lossless : IsLossless made packets
-  pub shown : AreShown made (shown_before part) packets
+  pub shown : AreSetsShown made (shown_before part) packets
   pub begins : found.anew ≡ true → BeginsAnew made packets
   pub only : BeginsAnew made packets → found.anew ≡ true
   pub joined_are : IsJoinedOf (earlier ++ placed part (kept_sets made packets)) joined

@@ -2,7 +2,7 @@ use Rattle.std.proofs.Common.{◌≡◌, ◌∙◌, ℕ, ◌+◌, ◌≤◌, Lis
 use Rattle.cue_list.specs.declared.limits.TheConstants.{LONGEST_SCRIPT}
 use Rattle.decoder_model.specs.Frames.{only}
 use Rattle.decoder_model.specs.declared.pages.Pages.{Pages}
-use Rattle.dump_text.specs.DumpText.{IsDumpText}
+use Rattle.dump_text.specs.DumpText.{IsDumpText, asked_for}
 use Rattle.packet_walk.specs.ToldEnds.{IsToldEnd}
 use Rattle.script_stream.specs.SentScripts.{stream_bytes}
 use Rattle.sub_base.specs.InMemory.{Store, Supply}
@@ -27,7 +27,9 @@ returns g c = λ done.
     let bytes : supply.left ≡ stream_bytes sent =
     ap (λ (one : Supply). one.left) c.make-source.ensures ∙ c.in-Ok-from_slice.ensures.items ∙ c.written.ensures
     ∙ c.in-Ok.ensures.written ∙ ap (λ (before : List ℕ). before ++ stream_bytes sent) nothing in
-    let IsEnd = λ (profile : Profile) (pages : Pages). IsToldEnd (IsDumpText profile 256 pages (tick ∷ [])) 256
+    let IsEnd =
+    λ (profile : Profile) (pages : Pages). IsToldEnd
+    (IsDumpText (asked_for profile 256 pages (tick ∷ [])) (tick ∷ [])) 256
     (record { left = Some supply.left; given = supply.given; faults = supply.faults })
     (record { left = Some rest.left; given = rest.given; faults = rest.faults }) start next end in
     let ended =

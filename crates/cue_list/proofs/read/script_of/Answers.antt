@@ -2,7 +2,7 @@ use Rattle.std.proofs.Common.{◌≡◌, ◌∙◌, ◌*◌, [], arith}
 use Rattle.std.proofs.lemmas.Grind.{common_steps}
 use Rattle.cue_list.specs.Past.{with_last}
 use Rattle.cue_list.specs.ScriptRows.{IsScript}
-use Rattle.cue_list.specs.Sound.{IsSound}
+use Rattle.cue_list.specs.Sound.{IsSoundScript}
 use Rattle.cue_list.proofs.ScriptLaws.{IsSound-read, IsScript-read, few-seconds}
 use Rattle.cue_list.proofs.read.script_of.Goals as goal
 
@@ -21,8 +21,9 @@ overflow_mul-refresh c =
 pub invariant_of-result : goal.invariant_of-result
 invariant_of-result c =
     let reader = c.in_ok-reader.reader in
-    let sound : IsSound reader.origin reader.width reader.height (90000 * reader.seconds) c.new.result c.new-2.result =
-    of-both (IsSound reader.origin reader.width reader.height (90000 * reader.seconds))
+    let sound : IsSoundScript reader.origin reader.width reader.height (90000 * reader.seconds) c.new.result
+    c.new-2.result =
+    of-both (IsSoundScript reader.origin reader.width reader.height (90000 * reader.seconds))
     (with_last reader.ended.items reader.epoch) c.new.result reader.pictures.items c.new-2.result
     (c.new.ensures ∙ c.in_ok-epochs.ensures.epochs) c.new-2.ensures
     (IsSound-read c.args.bytes.now c.args.font.now [] reader c.in_ok-reader.ensures.read c.in_ok-reader.ensures.epoch)
@@ -40,7 +41,7 @@ returns-clause-script c =
 pub returns-clause-sound : goal.returns-clause-sound
 returns-clause-sound c =
     let reader = c.in_ok-reader.reader in
-    of-both (IsSound reader.origin reader.width reader.height (90000 * reader.seconds))
+    of-both (IsSoundScript reader.origin reader.width reader.height (90000 * reader.seconds))
     (with_last reader.ended.items reader.epoch) c.new.result reader.pictures.items c.new-2.result
     (c.new.ensures ∙ c.in_ok-epochs.ensures.epochs) c.new-2.ensures
     (IsSound-read c.args.bytes.now c.args.font.now [] reader c.in_ok-reader.ensures.read c.in_ok-reader.ensures.epoch)

@@ -1,7 +1,8 @@
 -- What `check` tells, by the end of its walk.
+use Rattle.decoder_model.specs.Received.{Reception}
 use Rattle.std.proofs.Common.{◌∙◌, ℕ, ap, subst}
 use Rattle.packet_walk.proofs.EndLaws.{end_told}
-use Rattle.set_receiver.specs.Receiving.{Reception, reception}
+use Rattle.set_receiver.specs.Receiving.{reception}
 use Rattle.dvbsub_cmd.specs.Checks.{check_tells, checks}
 use Rattle.dvbsub_cmd.specs.Private.Closing.{is_whole_end}
 use Rattle.dvbsub_cmd.specs.StreamOutcome.{IsStreamCause}

@@ -1,9 +1,10 @@
 -- The greatest level of the packets.
-use Rattle.std.proofs.Common.{◌∙◌, [], refl}
+use Rattle.std.proofs.Common.{◌∙◌, [], refl, subst}
+use Rattle.check_text.specs.CheckText.{IsPeak}
 use Rattle.check_text.specs.Checking.{HasChecked}
+use Rattle.decoder_model.specs.Received.{Reception}
 use Rattle.set_receiver.specs.Receiving.{reception}
-use Rattle.dvbsub_cmd.specs.GenText.{generated_page, generated_pid}
-use Rattle.dvbsub_cmd.proofs.CheckLaws.{peak_as_asked}
+use Rattle.dvbsub_cmd.specs.GenText.{generated_pid}
 use Rattle.dvbsub_cmd.proofs.PutOutLaws.{told_all}
 use Rattle.dvbsub_cmd.proofs.compare.peak_of.Goals as goal
 
@@ -18,8 +19,7 @@ returns c =
     told_all HasChecked (reception made.receiving).pid _ _ made c.take_packets.new.teller c.in_ok-buffer.buffer
     c.take_packets.new.buffer c.args.packets.now c.in_ok-buffer.ensures c.in_ok-check.ensures.nothing
     c.in_default.ensures.tells in
-    peak_as_asked c.args.profile 0 generated_pid generated_page c.take_packets.new.teller c.args.packets.now
-    c.peak.result
+    subst (λ (made : Reception). IsPeak made c.args.packets.now c.peak.result)
     (c.take_packets.ensures.same ∙ c.in_ok-check.ensures.made
     ∙ (λ i. record {
       profile = c.of-profile.ensures i;

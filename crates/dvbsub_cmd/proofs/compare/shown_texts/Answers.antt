@@ -1,6 +1,7 @@
 use Rattle.std.proofs.Common.{◌≡◌, ◌∙◌, ◌++◌, ℕ, [], List, true, ap, append-nil, subst, sym}
 use Rattle.decoder_model.specs.Frames.{only}
 use Rattle.dump_text.proofs.AskedLaws.{tells_as_asked}
+use Rattle.dump_text.specs.DumpText.{asked_for}
 use Rattle.dump_text.specs.Dumping.{HasDumped}
 use Rattle.sub_base.specs.Profile.{profile_of}
 use Rattle.sub_base.specs.InMemory.{Store}
@@ -27,7 +28,7 @@ returns g c =
     sym (whole ∙ ap (λ (store : Store). store.written ++ (text ++ [])) c.make-texts.ensures ∙ append-nil text)
     in
     subst (dumps c.args.profile generated_pid generated_page c.args.ticks.now true c.args.packets.now) same
-    (tells_as_asked (profile_of c.args.profile) generated_pid (only generated_page) c.args.ticks.now made
-    c.take_packets.new.self true c.args.packets.now text c.in_default.ensures.same
-    (c.in_ok-dump.ensures.profile ∙ c.of-profile.ensures) c.in_ok-dump.ensures.pid
-    (c.in_ok-dump.ensures.pages ∙ c.only.ensures) c.in_ok-dump.ensures.ticks ended.1)
+    (tells_as_asked (asked_for (profile_of c.args.profile) generated_pid (only generated_page) c.args.ticks.now)
+    c.args.ticks.now made c.take_packets.new.self true c.args.packets.now text c.in_default.ensures.same
+    (c.in_ok-dump.ensures.made ∙ (λ i. asked_for (c.of-profile.ensures i) generated_pid (c.only.ensures i)
+    c.args.ticks.now)) c.in_ok-dump.ensures.ticks ended.1)

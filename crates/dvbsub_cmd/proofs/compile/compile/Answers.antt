@@ -1,6 +1,7 @@
 use Rattle.std.proofs.Common.{refl}
 use Rattle.script_stream.proofs.ShownLaws.{shown_of_sent}
 use Rattle.script_stream.specs.SentScripts.{stream_bytes}
+use Rattle.shown_stream.specs.Compiled.{compiling_for}
 use Rattle.dvbsub_cmd.proofs.CompileLaws.{fault_cause}
 use Rattle.dvbsub_cmd.proofs.compile.compile.Goals as goal
 
@@ -12,7 +13,7 @@ returns-in-Ok-compile_script-clause-cause g c = (
       script = c.in-Ok.script;
       reads = c.in-Ok.ensures.reads;
       compiled = c.in-Ok-compile_script.ensures.sent.compiled;
-      shown = shown_of_sent c.args.profile c.args.pid c.args.page c.in-Ok.script _
+      shown = shown_of_sent (compiling_for c.args.profile c.args.pid c.args.page c.in-Ok.script) _
           c.in-Ok-compile_script.ensures.sent c.in-Ok-compile_script.ensures.shown;
     };
     written = c.in-Ok-compile_script.ensures.written;

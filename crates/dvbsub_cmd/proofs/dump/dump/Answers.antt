@@ -4,7 +4,7 @@ use Rattle.command_words.proofs.TickLaws.{rising_ticks}
 use Rattle.command_words.specs.Ticks.{asked_ticks}
 use Rattle.decoder_model.specs.Frames.{only}
 use Rattle.decoder_model.specs.declared.pages.Pages.{Pages}
-use Rattle.dump_text.specs.DumpText.{IsDumpText, anchor_of}
+use Rattle.dump_text.specs.DumpText.{IsDumpText, anchor_of, asked_for}
 use Rattle.packet_walk.specs.ToldEnds.{IsToldEnd}
 use Rattle.sub_base.specs.declared.profile.Profile.{Profile}
 use Rattle.dvbsub_cmd.proofs.CloseLaws.{end_cause}
@@ -34,7 +34,7 @@ returns g c =
     let pid = c.args.pid in
     let lent = c.as_slice.result.now in
     let IsEnd = λ (profile : Profile) (pages : Pages) (ticks : List ℕ).
-    IsToldEnd (IsDumpText profile pid pages ticks) pid before now start next c.dump_stream.result in
+    IsToldEnd (IsDumpText (asked_for profile pid pages ticks) ticks) pid before now start next c.dump_stream.result in
     let ended =
     subst (λ (profile : Profile). IsEnd profile (only c.args.page) (asked_ticks 7 c.args.words.now))
     c.of-profile.ensures

@@ -2,7 +2,7 @@ use Rattle.std.proofs.Common.{◌∙◌, ◌+◌, ◌/◌, List, refl, sym, subs
 use Rattle.std.specs.List.{range_with_len, AllZip}
 use Rattle.std.proofs.lemmas.Grind.{common_steps}
 use Rattle.cue_list.specs.declared.epoch.Epoch.{Epoch}
-use Rattle.cue_list.specs.Sound.{IsSound}
+use Rattle.cue_list.specs.Sound.{IsSoundScript}
 use Rattle.generated_script.specs.Generated.{IsGeneratedEpoch}
 use Rattle.generated_script.proofs.SoundLaws.{sound}
 use Rattle.generated_script.proofs.script.generate.Goals as goal
@@ -12,7 +12,7 @@ invariant_of-result c =
     let epochs : AllZip (IsGeneratedEpoch c.args.number) (range_with_len 0 ((c.args.number + 15) / 16)) c.new.result =
     subst (λ (es : List Epoch). AllZip (IsGeneratedEpoch c.args.number)
     (range_with_len 0 ((c.args.number + 15) / 16)) es) (sym c.new.ensures) c.in_ok-epochs.ensures in
-    let made : IsSound 0 320 180 450000 c.new.result c.new-2.result =
+    let made : IsSoundScript 0 320 180 450000 c.new.result c.new-2.result =
     sound c.args.number c.new.result c.new-2.result c.requires.some c.requires.few epochs
     (c.new-2.ensures ∙ c.in_ok-pictures.ensures) in
     record { sound = grind (arith, common_steps) }

@@ -2,7 +2,7 @@ use Rattle.std.proofs.Common.{◌∙◌, ◌<◌, ℕ, List, None, drop, sym, su
 use Rattle.std.specs.List.Sorted.{IsStrictlyIncreasing}
 use Rattle.command_words.proofs.TickLaws.{rising_ticks}
 use Rattle.command_words.specs.Ticks.{asked_ticks}
-use Rattle.dump_text.specs.DumpText.{IsDumpText, anchor_of}
+use Rattle.dump_text.specs.DumpText.{IsDumpText, anchor_of, asked_for}
 use Rattle.packet_walk.specs.ToldEnds.{IsToldEnd}
 use Rattle.sub_base.specs.declared.profile.Profile.{Profile}
 use Rattle.page_pair.proofs.DumpLaws.{dump_cause, dump_unread, early_anchor}
@@ -29,7 +29,8 @@ returns-clause-cause g c =
     let start = g.K.Sink.received c.args.out.now in
     let next = g.K.Sink.received c.dump_stream.new.out in
     let IsEnd = λ (profile : Profile) (ticks : List ℕ).
-    IsToldEnd (IsDumpText profile dump.pid dump.pages ticks) dump.pid before now start next c.dump_stream.result in
+    IsToldEnd (IsDumpText (asked_for profile dump.pid dump.pages ticks) ticks) dump.pid before now start next
+    c.dump_stream.result in
     let ended =
     subst (λ (profile : Profile). IsEnd profile (asked_ticks 8 c.args.words.now)) c.of-profile.ensures
     (subst (IsEnd c.of-profile.result) (c.as_slice.ensures.value ∙ c.in-Ok.ensures) c.dump_stream.ensures) in
@@ -44,7 +45,8 @@ returns-clause-unread g c =
     let start = g.K.Sink.received c.args.out.now in
     let next = g.K.Sink.received c.dump_stream.new.out in
     let IsEnd = λ (profile : Profile) (ticks : List ℕ).
-    IsToldEnd (IsDumpText profile dump.pid dump.pages ticks) dump.pid before now start next c.dump_stream.result in
+    IsToldEnd (IsDumpText (asked_for profile dump.pid dump.pages ticks) ticks) dump.pid before now start next
+    c.dump_stream.result in
     let ended =
     subst (λ (profile : Profile). IsEnd profile (asked_ticks 8 c.args.words.now)) c.of-profile.ensures
     (subst (IsEnd c.of-profile.result) (c.as_slice.ensures.value ∙ c.in-Ok.ensures) c.dump_stream.ensures) in

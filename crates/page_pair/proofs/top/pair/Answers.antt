@@ -4,7 +4,7 @@ use Rattle.sub_base.specs.Seen.{Seen, seen}
 use Rattle.sub_base.specs.ToolOutcome.{IsToolCause}
 use Rattle.sub_base.specs.declared.status.ToolStatus.{ToolStatus}
 use Rattle.page_pair.proofs.EndLaws.{second_caused, send_caused}
-use Rattle.page_pair.specs.PairOutcome.{AreRead, ReadsPlainScript, pair_causes}
+use Rattle.page_pair.specs.PairOutcome.{AreScriptsRead, ReadsPlainScript, pair_causes}
 use Rattle.page_pair.specs.Private.Reading.{IsReadStop}
 use Rattle.page_pair.specs.declared.pair_fault.PairFault.{PairFault}
 use Rattle.page_pair.proofs.top.pair.Goals as goal
@@ -33,7 +33,7 @@ returns-clause-cause g c =
     let now : Seen =
     seen (g.A.Source.supplied c.read_plain-2.new.other) (g.B.Source.supplied c.read_plain-2.new.source)
     (g.K.Sink.received c.send.new.out) in
-    let read : AreRead before now c.in-Ok.script c.in-Ok-read_plain.script =
+    let read : AreScriptsRead before now c.in-Ok.script c.in-Ok-read_plain.script =
     record {
       read_first = subst (λ (one : Supplied). ReadsPlainScript first one c.in-Ok.script)
           (ap g.A.Source.supplied (sym c.read_plain-2.ensures.other)) c.in-Ok.ensures.reads;

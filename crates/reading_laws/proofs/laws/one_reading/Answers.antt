@@ -1,5 +1,5 @@
+use Rattle.decoder_model.specs.Received.{sets_received}
 use Rattle.std.proofs.Common.{reverse}
-use Rattle.decoder_model.specs.Sets.{sets_of}
 use Rattle.reading_laws.proofs.OneReading.{same_reading, same_past}
 use Rattle.reading_laws.proofs.laws.one_reading.Goals as goal
 
@@ -11,5 +11,4 @@ returns-clause-sets c = same_past
 
 pub returns-clause-packets : goal.returns-clause-packets
 returns-clause-packets c =
-    λ profile. λ pid. λ pages. λ ended. λ packets. same_past
-    (reverse (sets_of profile.coded pid pages ended packets))
+    λ reception. λ ended. λ packets. same_past (reverse (sets_received reception ended packets))

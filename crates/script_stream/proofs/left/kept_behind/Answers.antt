@@ -1,6 +1,6 @@
 use Rattle.std.proofs.Common.{◌≡◌, ◌∙◌, refl, ap, drop}
 use Rattle.std.proofs.lemmas.Result.{IfOk-weaker}
-use Rattle.slot_stream.specs.KeptPackets.{Kept, numbered}
+use Rattle.slot_stream.specs.KeptPackets.{SlottedPackets, numbered}
 use Rattle.script_stream.proofs.LeftLaws.{behind_cut, behind_many, first_among, kept_are}
 use Rattle.script_stream.proofs.SendLaws.{slots_pair}
 use Rattle.script_stream.proofs.UnitLaws.{cut_many}
@@ -80,7 +80,8 @@ returns c =
     let is_given : given ≡ drop n timed.schedule.slots =
     c.split_at-3.ensures.back ∙ ap (drop n) c.all_slots.ensures in
     IfOk-weaker c.of_pieces.result
-    (λ (kept : Kept). kept ≡ record { slots = given; packets = numbered c.args.pid n c.as_slice-4.result.now })
+    (λ (kept : SlottedPackets). kept
+    ≡ record { slots = given; packets = numbered c.args.pid n c.as_slice-4.result.now })
     (AreKeptOf script c.args.pid c.args.page n (drop f timed.plan.sets) (drop n timed.schedule.slots))
     (λ kept is. kept_are script c.args.pid c.args.page n (drop f timed.plan.sets) own.0 (drop n timed.schedule.slots)
     given c.in_ok-pieces.pieces.items c.as_slice-4.result.now kept own.1 is_given c.as_slice-4.ensures.value

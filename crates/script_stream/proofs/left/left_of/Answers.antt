@@ -17,8 +17,8 @@ returns c =
     are_left c.args.script.now c.args.pid c.args.page c.args.sent timed.plan.sets timed.loads.items timed.schedule
     c.first_sets-first.result.sets c.first_sets-first.result.packets
     (record { kept = c.in_ok-kept.kept; count = c.count_of.result }) (omega arith) c.requires.ready first
-    (λ j low. before_slots timed.schedule.slots c.all_slots-slots.result.now c.slots_before-before.result
-    c.args.sent c.all_slots-slots.ensures c.slots_before-before.ensures.before j
+    (λ j low. before_slots timed.schedule.slots c.all_slots-slots.result.now c.first_from-before.result
+    c.args.sent c.all_slots-slots.ensures c.first_from-before.ensures.next.before j
     (omega (arith, low, c.first_sets-first.ensures.few)))
     c.in_ok-kept.ensures (c.count_of.ensures ∙ ap slot_count c.all_slots-slots.ensures)
   where

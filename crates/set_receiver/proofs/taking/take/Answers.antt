@@ -5,7 +5,7 @@ use Rattle.decoder_model.specs.Readings.{Reading}
 use Rattle.decoder_model.specs.Sets.{Delivery}
 use Rattle.decoder_model.specs.Verdict.{verdict_of}
 use Rattle.display_sets.specs.Lent.{lent, lent_content}
-use Rattle.page_core.specs.Memory.{Stands}
+use Rattle.page_core.specs.Memory.{IsMemoryAfter}
 use Rattle.set_receiver.proofs.Loads.{ready_refused, ready_whole, refused_load, verdict_says, whole_load}
 use Rattle.set_receiver.proofs.taking.take.Goals as goal
 
@@ -13,7 +13,7 @@ pub returns-in-Ok-clause-stands : goal.returns-in-Ok-clause-stands
 returns-in-Ok-clause-stands c past delivery one ready read stands =
     let found =
     ready_whole (lent c.args.ready) c.in-Ok.bytes.now delivery one (ap lent_content c.in-Ok.is) ready read in
-    subst (λ (d : Delivery Reading). Stands (d ∷ past) c.take_set-end.new.self) (sym found.2)
+    subst (λ (d : Delivery Reading). IsMemoryAfter (d ∷ past) c.take_set-end.new.self) (sym found.2)
     (c.take_set-end.ensures.stands past c.args.ready.size found.0 stands found.1)
 
 pub returns-in-Ok-clause-answer : goal.returns-in-Ok-clause-answer
@@ -42,7 +42,7 @@ returns-in-Ok-clause-load c past delivery one ready read stands =
 pub returns-in-Err-clause-stands : goal.returns-in-Err-clause-stands
 returns-in-Err-clause-stands c past delivery one ready read stands =
     let is = ready_refused (lent c.args.ready) c.in-Err.fault delivery one (ap lent_content c.in-Err.is) ready read in
-    subst (λ (d : Delivery Reading). Stands (d ∷ past) c.refuse_set.new.self) (sym is)
+    subst (λ (d : Delivery Reading). IsMemoryAfter (d ∷ past) c.refuse_set.new.self) (sym is)
     (c.refuse_set.ensures.stands past c.args.ready.size stands)
 
 pub returns-in-Err-clause-answer : goal.returns-in-Err-clause-answer

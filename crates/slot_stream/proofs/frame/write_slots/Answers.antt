@@ -3,7 +3,7 @@ use Rattle.std.proofs.lemmas.List.{length-take-le}
 use Rattle.sub_base.proofs.TransferSteps.{OnErr-of}
 use Rattle.sub_base.specs.Endpoints.{Wrote, WrotePrefix}
 use Rattle.slot_stream.specs.Private.Frames.{packets_at}
-use Rattle.slot_stream.specs.SlotWalk.{IsNext}
+use Rattle.slot_stream.specs.SlotWalk.{IsNextPlace}
 use Rattle.slot_stream.proofs.FrameLaws.{many_left, nulls_stay, room_for_many, room_stays, written_front, written_more}
 use Rattle.slot_stream.proofs.frame.write_slots.Goals as goal
 
@@ -43,7 +43,8 @@ loop-slot-preserved g c =
     (packets_at pid c.args.pieces.now c.args.slots.now slot (length (take many room)))) c.loop-slot.invariant.pid
     c.in_ok-next.ensures.all) in
     record {
-      next = subst (λ (n : ℕ). IsNext c.args.slots.now c.in_ok-next.next (slot + n)) long c.in_ok-next.ensures.next;
+      next =
+          subst (λ (n : ℕ). IsNextPlace c.args.slots.now c.in_ok-next.next (slot + n)) long c.in_ok-next.ensures.next;
       pid = c.in_ok-next.ensures.pid ∙ c.loop-slot.invariant.pid;
       counter = c.in_ok-next.ensures.counter;
       within = many_left many c.args.count slot (length room) c.min-many.ensures c.loop-slot-test.true;

@@ -2,13 +2,13 @@ use Rattle.std.proofs.Common.{◌≡◌, ◌-◌, ◌%◌, ◌≤◌, length}
 use Rattle.sub_base.specs.Endpoints.{Wrote}
 use Rattle.slot_stream.specs.Private.Frames.{AreNull}
 use Rattle.slot_stream.specs.SlotStream.{packets_before}
-use Rattle.slot_stream.specs.SlotWalk.{IsNext}
+use Rattle.slot_stream.specs.SlotWalk.{IsNextPlace}
 use Rattle.slot_stream.proofs.frame.write_slots.Given as goal
 
 abbrev pub invariant-loop-slot : goal.invariant-loop-slot
 invariant-loop-slot g l =
     record {
-      next : IsNext l.slots l.next l.slot;
+      next : IsNextPlace l.slots l.next l.slot;
       pid : l.packetiser.pid ≡ l.fn.packetiser.pid;
       counter : l.packetiser.counter ≡ l.next % 16;
       within : l.slot ≤ l.count;

@@ -1,5 +1,5 @@
 use Rattle.std.proofs.Common.{◌∙◌, [], refl, sym, subst, arith}
-use Rattle.set_receiver.specs.Receiving.{Reception, reception}
+use Rattle.set_receiver.specs.Receiving.{reception}
 use Rattle.splice.specs.Private.Surveyed.{HasGone}
 use Rattle.splice.specs.declared.found.Found.{Found}
 use Rattle.splice.specs.declared.found.Survey.TheVariants.{Whole}

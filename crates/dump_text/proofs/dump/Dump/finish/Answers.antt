@@ -1,5 +1,6 @@
 use Rattle.std.proofs.Common.{◌++◌, ℕ, List, true, subst}
 use Rattle.command_text.specs.Putting.{PutsOut}
+use Rattle.receiver.specs.Receiving.{reception}
 use Rattle.dump_text.specs.DumpText.{IsDumpText}
 use Rattle.dump_text.specs.Dumping.{Dumping, HasDumped}
 use Rattle.dump_text.proofs.DumpLaws.{dumped_whole}
@@ -10,8 +11,7 @@ returns g c =
     subst
     (λ (old : Dumping). (packets : List (List ℕ)) (text : List ℕ) → HasDumped old packets text
     → (more : List ℕ)
-    × IsDumpText old.receiving.showing.core.profile old.receiving.demux.pid old.receiving.sets.pages old.ticks true
-    packets (text ++ more)
+    × IsDumpText (reception old.receiving) old.ticks true packets (text ++ more)
     × PutsOut (g.K.Sink.received c.args.out.now) (g.K.Sink.received c.put_rest.new.out) c.args.buffer.now
     c.put_rest.new.buffer more)
     c.self.view_is

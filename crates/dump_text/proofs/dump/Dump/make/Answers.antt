@@ -9,9 +9,16 @@ invariant_of-result c = record {
   within = omega arith;
 }
 
+pub returns-clause-made : goal.returns-clause-made
+returns-clause-made c = λ i. record {
+  profile = c.in_ok-of_pages.ensures.profile i;
+  pid = c.in_ok-of_pages.ensures.pid i;
+  pages = c.in_ok-of_pages.ensures.pages i;
+  anchor = (c.in_ok-of_pages.ensures.anchor ∙ c.anchor.ensures) i;
+}
+
 pub returns-clause-nothing : goal.returns-clause-nothing
 returns-clause-nothing c = record {
-  anchored = c.in_ok-of_pages.ensures.anchor ∙ c.anchor.ensures;
   within = omega arith;
   told = nothing_told c.in_ok-of_pages.field-0 c.args.ticks.now c.in_ok-of_pages.ensures.stands;
   all =

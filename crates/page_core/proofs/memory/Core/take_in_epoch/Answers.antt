@@ -8,7 +8,7 @@ use Rattle.decoder_model.specs.Taken.{segments_of, taken_of}
 use Rattle.segments.specs.Contents.{page_value}
 use Rattle.page_core.specs.Private.Accepted.{IsBefore}
 use Rattle.page_core.specs.Private.Judging.{fault_before_nodes}
-use Rattle.page_core.specs.Memory.{Memory, IsWhole, Holds}
+use Rattle.page_core.specs.Memory.{Memory, IsWholeMemory, HoldsSegments}
 use Rattle.page_core.specs.Private.SetSteps.{before_objects}
 use Rattle.page_core.proofs.Sets.SetOrder.{objects_in_order, set_in_order}
 use Rattle.page_core.proofs.Handed.SetVerdicts.{early_fault, fault_of_nodes, fault_of_objects}
@@ -45,7 +45,7 @@ returns-clause-fault c set before is found sound page =
     c.take_regions.ensures.holds c.take_regions.ensures.pixels c.take_regions.ensures.rest in
     let with_page =
     page_taken set before value c.args.bytes.now sound first c.take_regions.new.self c.take_cluts.new.self
-    c.take_page.new.self regions (subst IsWhole c.self.view_is c.self.invariant.whole)
+    c.take_page.new.self regions (subst IsWholeMemory c.self.view_is c.self.invariant.whole)
     c.take_cluts.ensures.holds c.take_cluts.ensures.rest c.take_page.ensures.holds c.take_page.ensures.entries
     c.take_page.ensures.free c.take_page.ensures.rest in
     fault_of_objects c.args.self.now.profile before set value c.take_objects.result none room
@@ -71,14 +71,15 @@ returns-clause-taken c set before is found sound page no_fault =
     c.take_regions.ensures.holds c.take_regions.ensures.pixels c.take_regions.ensures.rest in
     let with_page =
     page_taken set before value c.args.bytes.now sound first c.take_regions.new.self c.take_cluts.new.self
-    c.take_page.new.self regions (subst IsWhole c.self.view_is c.self.invariant.whole)
+    c.take_page.new.self regions (subst IsWholeMemory c.self.view_is c.self.invariant.whole)
     c.take_cluts.ensures.holds c.take_cluts.ensures.rest c.take_page.ensures.holds c.take_page.ensures.entries
     c.take_page.ensures.free c.take_page.ensures.rest in
     let rest = c.take_objects.ensures.rest in
     record {
       known = rest.known ∙ c.take_page.ensures.known;
       holds =
-          subst (λ (segments : List Content). Holds segments c.take_objects.new.self) (sym (set_in_order set before))
+          subst (λ (segments : List Content). HoldsSegments segments c.take_objects.new.self)
+          (sym (set_in_order set before))
           (c.take_objects.ensures.taken (before_objects (segments_of before) set) set with_page.holds sound.contents
           no_fault);
       time_out = rest.time_out ∙ c.take_page.ensures.time_out;

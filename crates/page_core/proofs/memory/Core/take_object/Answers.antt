@@ -3,10 +3,10 @@ use Rattle.std.proofs.Common.{[], ◌∙◌, refl, subst, sym}
 use Rattle.page_core.specs.Composition.{Composition}
 use Rattle.page_core.specs.Private.Marks.{AreMarked}
 use Rattle.stream_syntax.specs.Segments.{SegmentValue}
-use Rattle.decoder_model.specs.Readings.{AreFields}
+use Rattle.decoder_model.specs.Readings.{AreObjectFields}
 use Rattle.segments.specs.Contents.{object_value}
 use Rattle.page_core.specs.Private.Listings.{IsPainter, painter_of}
-use Rattle.page_core.specs.Memory.{Holds}
+use Rattle.page_core.specs.Memory.{HoldsSegments}
 use Rattle.page_core.proofs.Objects.ObjectMemory.{regions_there, still_whole, painted_holds, fault_is, no_fault_is}
 use Rattle.page_core.proofs.memory.Core.take_object.Goals as goal
 
@@ -37,8 +37,8 @@ invariant_of-self c = record {
 pub returns-clause-fault : goal.returns-clause-fault
 returns-clause-fault c older content holds is fields =
     let object = object_value c.args.object.now in
-    let read = subst (λ (v : SegmentValue). AreFields v content.top content.bottom) (sym is) fields in
-    let before = subst (Holds older) (sym c.self.view_is) holds in
+    let read = subst (λ (v : SegmentValue). AreObjectFields v content.top content.bottom) (sym is) fields in
+    let before = subst (HoldsSegments older) (sym c.self.view_is) holds in
     let apart = c.self.invariant.whole.apart in
     c.in_segment.ensures
     ∙ fault_is older _ before (painter_of c.args.object.now) object content
@@ -48,8 +48,8 @@ returns-clause-fault c older content holds is fields =
 pub returns-clause-taken : goal.returns-clause-taken
 returns-clause-taken c older content holds is fields none =
     let object = object_value c.args.object.now in
-    let read = subst (λ (v : SegmentValue). AreFields v content.top content.bottom) (sym is) fields in
-    let before = subst (Holds older) (sym c.self.view_is) holds in
+    let read = subst (λ (v : SegmentValue). AreObjectFields v content.top content.bottom) (sym is) fields in
+    let before = subst (HoldsSegments older) (sym c.self.view_is) holds in
     let apart = c.self.invariant.whole.apart in
     let by_painter : IsPainter (painter_of c.args.object.now) object =
     record { object = refl; version = refl; see_through = refl } in

@@ -4,7 +4,7 @@ use Rattle.decoder_model.specs.Nodes.{nodes_of}
 use Rattle.decoder_model.specs.Taken.{taken_of}
 use Rattle.segments.specs.Contents.{page_value}
 use Rattle.page_core.specs.Composition.{Composition}
-use Rattle.page_core.specs.Memory.{Holds, Memory}
+use Rattle.page_core.specs.Memory.{HoldsSegments, Memory}
 use Rattle.page_core.proofs.Counts.SetRoom.{room_for_page, free_after_page}
 use Rattle.page_core.proofs.memory.Core.take_page.Goals as goal
 use Rattle.page_core.proofs.memory.Core.take_page.Goals.{then-count-free, else-count-free}
@@ -12,7 +12,7 @@ use Rattle.page_core.proofs.memory.Core.take_page.Goals.{then-count-free, else-c
 pub returns-clause-entries : goal.returns-clause-entries
 returns-clause-entries c segments holds empty enough =
     let page = page_value c.args.page.now in
-    let held = subst (Holds segments) (sym c.self.view_is) holds in
+    let held = subst (HoldsSegments segments) (sym c.self.view_is) holds in
     let none = ap (λ (m : Memory). m.composition.entries) c.self.view_is ∙ empty in
     let low =
     subst (λ (m : Memory). nodes_of (taken_of segments) page ≤ m.profile.nodes) (sym c.self.view_is) enough in
@@ -27,7 +27,7 @@ returns-clause-entries c segments holds empty enough =
 pub returns-clause-free : goal.returns-clause-free
 returns-clause-free c segments holds empty enough =
     let page = page_value c.args.page.now in
-    let held = subst (Holds segments) (sym c.self.view_is) holds in
+    let held = subst (HoldsSegments segments) (sym c.self.view_is) holds in
     let none = ap (λ (m : Memory). m.composition.entries) c.self.view_is ∙ empty in
     let low =
     subst (λ (m : Memory). nodes_of (taken_of segments) page ≤ m.profile.nodes) (sym c.self.view_is) enough in

@@ -1,6 +1,6 @@
 -- The regions of a set are taken.
 use Rattle.std.proofs.Common.{refl, sym, subst, filter}
-use Rattle.page_core.specs.Memory.{Holds}
+use Rattle.page_core.specs.Memory.{HoldsSegments}
 use Rattle.page_core.specs.Private.RegionSteps.{AreRegionsRight}
 use Rattle.page_core.specs.Private.Walks.{is_region}
 use Rattle.page_core.proofs.Counts.RegionNeeds.{are_regions}
@@ -19,7 +19,7 @@ invariant_of-self c =
 
 pub returns-clause-holds : goal.returns-clause-holds
 returns-clause-holds c older set holds are apart right =
-    let before = subst (Holds older) (sym c.self.view_is) holds in
+    let before = subst (HoldsSegments older) (sym c.self.view_is) holds in
     let rights = subst (AreRegionsRight older set) (sym c.self.view_is) right in
     let stored = c.clear_renewed.ensures.stored c.self.inside.store (stored_whole _ c.self.invariant.whole) in
     let ready =
@@ -31,7 +31,7 @@ returns-clause-holds c older set holds are apart right =
 
 pub returns-clause-pixels : goal.returns-clause-pixels
 returns-clause-pixels c older set holds are apart right =
-    let before = subst (Holds older) (sym c.self.view_is) holds in
+    let before = subst (HoldsSegments older) (sym c.self.view_is) holds in
     let rights = subst (AreRegionsRight older set) (sym c.self.view_is) right in
     let stored = c.clear_renewed.ensures.stored c.self.inside.store (stored_whole _ c.self.invariant.whole) in
     let ready =

@@ -1,5 +1,5 @@
 use Rattle.std.proofs.Common.{◌≡◌, ◌+◌, ◌<◌, ◌≤◌, min, subst, sym, arith}
-use Rattle.pixel_store.specs.Regions.{Region}
+use Rattle.pixel_store.specs.Regions.{StoredRegion}
 use Rattle.pixel_store.specs.Private.Stores.{extent_at, regions_in}
 use Rattle.pixel_store.proofs.CallLaws.{run_after, outside_after}
 use Rattle.pixel_store.proofs.StoreCalls.{extent_fits, run_store, region_is}
@@ -76,4 +76,4 @@ returns-else-y-from-clause-after c =
     c.args.slot c.requires.slot p here in
     let below : p.height ≤ c.args.y = omega (arith, c.from.ensures) in
     outside_after c.args.slot c.args.x c.args.y c.args.length c.args.code c.args.self.now
-    (subst (λ (r : Region). r.height ≤ c.args.y) (sym region) below)
+    (subst (λ (r : StoredRegion). r.height ≤ c.args.y) (sym region) below)

@@ -2,9 +2,9 @@
 use Rattle.std.proofs.Common.{◌≡◌, false, refl, sym, subst}
 use Rattle.stream_syntax.specs.Units.{event_at}
 use Rattle.decoder_model.specs.PacketArrivals.{packet_arrival}
+use Rattle.decoder_model.specs.Received.{Reception}
 use Rattle.decoder_model.specs.Sets.{lost}
 use Rattle.display_sets.proofs.ReadySets.{at_most_two}
-use Rattle.set_receiver.specs.Receiving.{Reception}
 use Rattle.set_receiver.proofs.TakenSets.{all_lost}
 use Rattle.receiver.specs.Receiving.{Receiving, Stands, reception}
 use Rattle.receiver.specs.Showing.{ArePictures}

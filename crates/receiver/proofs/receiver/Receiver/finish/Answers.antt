@@ -1,6 +1,6 @@
 -- The stream has ended, which changes no picture.
+use Rattle.decoder_model.specs.Received.{Reception}
 use Rattle.std.proofs.Common.{false, sym, subst}
-use Rattle.set_receiver.specs.Receiving.{Reception}
 use Rattle.receiver.specs.Receiving.{Stands}
 use Rattle.receiver.specs.Showing.{ArePictures}
 use Rattle.receiver.proofs.receiver.Receiver.finish.Goals as goal

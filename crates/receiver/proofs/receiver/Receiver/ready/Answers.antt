@@ -1,9 +1,9 @@
 -- The set that comes next, or none.
 use Rattle.std.proofs.Common.{◌≡◌, ℕ, List, Some, refl, sym, subst}
 use Rattle.decoder_model.specs.Kept.{time_of}
+use Rattle.decoder_model.specs.Received.{sets_received}
 use Rattle.decoder_model.specs.Sets.{Delivery}
 use Rattle.receiver.specs.Receiving.{IsNext, Receiving, Stands, reception}
-use Rattle.set_receiver.specs.Receiving.{sets_received}
 use Rattle.receiver.proofs.receiver.Receiver.ready.Goals as goal
 
 pub returns-in_err-time-clause-all : goal.returns-in_err-time-clause-all

@@ -1,7 +1,7 @@
 -- What a reader stands for with one more packet.
 use Rattle.std.proofs.Common.{◌≡◌, ◌∙◌, ◌||◌, false, sym, subst}
 use Rattle.decoder_model.specs.PacketArrivals.{packet_arrival}
-use Rattle.set_reader.specs.Collecting.{Collecting, Stands}
+use Rattle.set_reader.specs.Collecting.{Collecting, IsReaderOf}
 use Rattle.set_reader.specs.Arrived.{arrival_value}
 use Rattle.set_reader.specs.Private.Ends.{end_drops, end_parts}
 use Rattle.set_reader.proofs.Feeds.{fed_arrival, fed_stands}
@@ -9,7 +9,7 @@ use Rattle.set_reader.proofs.reader.SetReader.feed.Goals as goal
 
 pub returns-clause-stands : goal.returns-clause-stands
 returns-clause-stands c fed given stands =
-    let before = subst (Stands false fed given) (sym c.self.view_is) stands in
+    let before = subst (IsReaderOf false fed given) (sym c.self.view_is) stands in
     fed_stands _ _ fed c.args.packet.now given _ c.self.invariant before c.in_ok-outcome.ensures.fault
     c.in_ok-outcome.ensures.goes_on
     (record {
@@ -20,7 +20,7 @@ returns-clause-stands c fed given stands =
 
 pub returns-clause-arrival : goal.returns-clause-arrival
 returns-clause-arrival c fed given stands =
-    let before = subst (Stands false fed given) (sym c.self.view_is) stands in
+    let before = subst (IsReaderOf false fed given) (sym c.self.view_is) stands in
     subst
     (λ (old : Collecting). arrival_value c.of-self-inside.result
     ≡ packet_arrival old.sets.coded old.demux.pid old.sets.pages fed c.args.packet.now) c.self.view_is
