@@ -1,7 +1,7 @@
 #!/usr/bin/env bash
-# Reads compiled streams by `list`, `check`, `dump` (1,000 ticks, one band) and `pictures` (of all sets, one band), beside `cat` of the same
-# file: an hour of cues of two lines, one every four seconds, and a script at its limits. Then the same of a PID that the hour's stream
-# does not have. Each line has the bytes of the stream, the best processor time of the program of three runs, and the greatest memory
+# Reads compiled streams by `list`, `check`, `dump` (1,000 ticks, one band), `pictures` (of all sets, one band), `pids`, `faults` and `levels`,
+# beside `cat` of the same file: an hour of cues of two lines, one every four seconds, and a script at its limits. Then `list` and `check` of a PID
+# that the hour's stream does not have. Each line has the bytes of the stream, the best processor time of the program of three runs, and the greatest memory
 # of these.
 set -e
 cd "$(dirname "${BASH_SOURCE[0]}")/.."
@@ -37,6 +37,9 @@ for kind in hour limits; do
     # shellcheck disable=SC2086
     measure "$kind, dump" bench/out/stream.ts "$program" dump sd 256 1 1 bench/out/stream.ts bench/out/dump.txt $ticks
     measure "$kind, pictures" bench/out/stream.ts "$tools" pictures sd 256 1 1 bench/out/stream.ts bench/out/pictures.txt
+    measure "$kind, pids" bench/out/stream.ts "$tools" pids bench/out/stream.ts bench/out/report.txt
+    measure "$kind, faults" bench/out/stream.ts "$tools" faults sd 256 1 bench/out/stream.ts bench/out/report.txt
+    measure "$kind, levels" bench/out/stream.ts "$tools" levels sd 256 1 192000 bench/out/stream.ts bench/out/report.txt
     tail -n 2 bench/out/check.txt
     echo "$(grep -c '^set' bench/out/check.txt) sets"
     if [ "$kind" = hour ]; then
@@ -44,4 +47,4 @@ for kind in hour limits; do
         measure "$kind, another PID, check" bench/out/stream.ts "$program" check sd 0 257 1 bench/out/stream.ts bench/out/check.txt
     fi
 done
-rm bench/out/script.csv bench/out/stream.ts bench/out/list.txt bench/out/check.txt bench/out/dump.txt bench/out/pictures.txt
+rm bench/out/script.csv bench/out/stream.ts bench/out/list.txt bench/out/check.txt bench/out/dump.txt bench/out/pictures.txt bench/out/report.txt

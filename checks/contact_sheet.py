@@ -5,7 +5,7 @@
 
 compiles a script of 100 cues, which has 200 display sets, makes the page in FOLDER or in one that is removed again, and reads it: there is
 a card for each set that the script asks for, in order, with its time; each second one has a picture that is a PNG file of the display's
-size, and the others are clear. Where a chromium is on the path, it loads the page without a window, and has to show as many pictures.
+size, and the others are clear. Then a sub-block of one object in the stream gets a type that there is none of: that set's card has to say so. Where a chromium is on the path, it loads the page without a window, and has to show as many pictures.
 It uses Python's standard library alone.
 """
 
@@ -75,6 +75,23 @@ def check_page(folder):
     return len(page.cards), len(shown)
 
 
+def damaged(packets):
+    """The packets, where the first sub-block of the first object that has its head in one packet has a type that is none (EN 300 743, 7.2.5.1)."""
+    for start in range(0, len(packets), 188):
+        packet = packets[start : start + 188]
+        head = packet.find(b"\x0f\x13\x00\x01")
+        if packet[1:3] != b"\x1f\xff" and head > 0 and head + 13 < 188:
+            return packets[: start + head + 13] + b"\x33" + packets[start + head + 14 :]
+    raise AssertionError("no object's head lies in one packet")
+
+
+def check_damaged(folder):
+    page = Page()
+    page.feed((folder / "index.html").read_text())
+    told = [card["text"] for card in page.cards if "Segment UnknownType 0 13" in card["text"]]
+    assert len(told) == 1 and "broken" in told[0], f"cards with the fault: {told}"
+
+
 def check_in_browser(browser, folder):
     """The browser has every picture: a page that only counts them says how many have the display's width."""
     count = "<script>onload = () => document.title = [...document.images].filter(i => i.naturalWidth === 720).length</script>"
@@ -95,6 +112,11 @@ def main(folder):
     sheet = [sys.executable, TOP / "examples" / "contact_sheet.py", stream, "sd", "256", "1", folder / "sheet"]
     subprocess.run(sheet, check=True, stdout=subprocess.DEVNULL)
     cards, pictures = check_page(folder / "sheet")
+    other = folder / "damaged.ts"
+    other.write_bytes(damaged(stream.read_bytes()))
+    sheet = [sys.executable, TOP / "examples" / "contact_sheet.py", other, "sd", "256", "1", folder / "damaged"]
+    subprocess.run(sheet, check=True, stdout=subprocess.DEVNULL)
+    check_damaged(folder / "damaged")
     browser = shutil.which("chromium") or shutil.which("chromium-browser")
     if browser:
         check_in_browser(browser, folder / "sheet")

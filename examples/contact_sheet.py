@@ -1,8 +1,8 @@
-"""Makes one page for a browser of all display sets of a stream: time, picture, what becomes of the set, and when it ends.
+"""Makes one page for a browser of all display sets of a stream: time, picture, what becomes of the set and why, and when it ends.
 
     python3 examples/contact_sheet.py STREAM PROFILE PID PAGE FOLDER
 
-writes FOLDER/index.html, the pictures in FOLDER/pictures, and the texts of `check` and `pictures` beside them. PROFILE is `sd`, `hd` or `large`.
+writes FOLDER/index.html, the pictures in FOLDER/pictures, and the texts of `check`, `pictures` and `faults` beside them. PROFILE is `sd`, `hd` or `large`.
 A picture has the colours and the transparency of the stream. It uses Python's standard library, `dvbsub` and `dvbsub_tools`.
 """
 
@@ -70,6 +70,19 @@ def sets_in(text):
     return [(int(words[1]), words[2], int(words[3])) for words in lines if words[0] == "set"]
 
 
+def faults_in(text):
+    """What `faults` tells of a set, by its number: why it is broken, and what is found in it besides."""
+    found, number = {}, None
+    for line in text.read_text().splitlines():
+        words = line.split()
+        if words[0] == "set":
+            number = int(words[1])
+            found[number] = [" ".join(words[4:])] if words[4:] else []
+        elif words[0] != "sets":
+            found[number].append(line)
+    return found
+
+
 def pictures_in(text):
     """Each tick of the text of `pictures` with the sides and the rows of its picture, or with nothing where it is clear."""
     with text.open() as lines:
@@ -104,13 +117,14 @@ def end_of(following, times):
     return f"{'' if following in times else 'timed out at '}{time_code(following)}"
 
 
-def card(number, one, picture, end):
+def card(number, one, picture, end, faults):
     tick, state, size = one
     seen = f'<img src="pictures/{picture}" alt="set {number}" loading="lazy">' if picture else "clear"
     rows = [
         ("set", f"{number}"),
         ("time", f"{time_code(tick)} (tick {tick})"),
         ("state", state),
+        *(("fault", fault) for fault in faults),
         ("end", end),
         ("size", f"{size} bytes"),
     ]
@@ -129,6 +143,9 @@ def main(stream, profile, pid, page, folder):
     text = folder / "pictures.txt"
     run(TOOLS, text, "pictures", profile, pid, page, 4, stream, text)
     shown = shown_in(text, folder)
+    text = folder / "faults.txt"
+    run(TOOLS, text, "faults", profile, pid, page, stream, text)
+    faults = faults_in(text)
     following = dict(zip(shown, [*list(shown)[1:], None]))
     states = Counter(one[1] for one in sets)
     counts = ", ".join(f"{count} {state}" for state, count in states.items()) or "none"
@@ -137,9 +154,9 @@ def main(stream, profile, pid, page, folder):
         out.write(HEAD.format(title=html.escape(pathlib.Path(stream).name), about=html.escape(about)))
         for number, one in enumerate(sets, 1):
             if one[1] == "notlater":
-                out.write(card(number, one, None, "it is dropped"))
+                out.write(card(number, one, None, "it is dropped", faults.get(number, [])))
                 continue
-            out.write(card(number, one, shown.get(one[0]), end_of(following.get(one[0]), times)))
+            out.write(card(number, one, shown.get(one[0]), end_of(following.get(one[0]), times), faults.get(number, [])))
         out.write(TAIL)
     print(f"{len(sets)} display sets in {folder / 'index.html'}")
 
