@@ -15,6 +15,8 @@ mod run_codes;
 #[cfg(test)]
 mod segment_bytes;
 #[cfg(test)]
+mod string_ends;
+#[cfg(test)]
 mod table_bytes;
 #[cfg(test)]
 mod unit_bytes;

@@ -12,14 +12,15 @@ use Rattle.stream_syntax.specs.declared.code_fault.CodeKind.{CodeKind}
 use Rattle.stream_syntax.specs.declared.code_fault.CodeKind.TheVariants.{UnknownType, TooDeep, CutString, CutTable}
 use Rattle.pixel_codes.specs.declared.part.Head.{Head}
 use Rattle.pixel_codes.specs.declared.part.Head.TheVariants.{PixelString, Table, LineEnd}
-use Rattle.pixel_codes.specs.declared.token.Token.{Token}
-use Rattle.pixel_codes.specs.declared.token.Token.TheVariants.{Pixels, End}
+use Rattle.code_strings.specs.declared.token.Token.{Token}
+use Rattle.code_strings.specs.declared.token.Token.TheVariants.{Pixels, End}
 use Rattle.pixel_codes.specs.Private.Parts.{head_of}
-use Rattle.pixel_codes.specs.Private.Reading.{token_at}
-use Rattle.pixel_codes.proofs.Bits.{IsBits-bits_of}
-use Rattle.pixel_codes.proofs.Tokens.{StandsAt}
-use Rattle.pixel_codes.proofs.NarrowTokens.{token_reads}
-use Rattle.pixel_codes.proofs.Strings.{Reached, reached_none, reached_more, string_found, no_string, read_further}
+use Rattle.code_strings.specs.Reading.{token_at}
+use Rattle.code_strings.proofs.Bits.{IsBits-bits_of}
+use Rattle.code_strings.proofs.Tokens.{StandsAt}
+use Rattle.code_strings.proofs.NarrowTokens.{token_reads}
+use Rattle.code_strings.specs.Reached.{Reached}
+use Rattle.code_strings.proofs.Strings.{reached_none, reached_more, string_found, no_string, read_further}
 use Rattle.pixel_codes.proofs.Parts.{Begins, begins}
 
 -- ---- strings

@@ -10,8 +10,8 @@ use Rattle.sub_base.specs.declared.depth.Depth.{Depth}
 use Rattle.sub_base.specs.declared.depth.Depth.TheVariants.{Two, Four, Eight}
 use Rattle.stream_syntax.specs.PixelCodes.{Code, IsCode, pixel_count, colour_of, pixels_of, spelled, Gives, bits_in, IsLeast, IsAtLeast, IsChosen}
 use Rattle.pixel_codes.specs.Private.Least.{two_some, two_none, four_some, four_none, eight_some, eight_none, longest_bits, rest_bits, table_bits, first_code, chosen_within, chosen}
-use Rattle.pixel_codes.proofs.Tokens.{width_of, length-spelled}
-use Rattle.pixel_codes.proofs.NarrowTokens.{width_some}
+use Rattle.code_strings.proofs.Tokens.{width_of, length-spelled}
+use Rattle.code_strings.proofs.NarrowTokens.{width_some}
 use Rattle.pixel_codes.proofs.Table.{table_step}
 use Rattle.pixel_codes.proofs.DeepFirst.{first_is}
 

@@ -7,7 +7,7 @@ use Rattle.sub_base.specs.declared.depth.Depth.{Depth}
 use Rattle.sub_base.specs.declared.depth.Depth.TheVariants.{Two, Four, Eight}
 use Rattle.stream_syntax.specs.PixelCodes.{Code, pixel, one_zero, two_zeros, zeros, short_run, middle_run, long_run, IsCode, pixel_count, colour_of}
 use Rattle.pixel_codes.specs.Private.Least.{two_some, two_none, four_some, four_none, eight_some, eight_none, table_bits, first_code}
-use Rattle.pixel_codes.proofs.Tokens.{width_of}
+use Rattle.code_strings.proofs.Tokens.{width_of}
 
 -- what a first code has to be
 pub record IsFirst (depth : Depth) (colour count : ℕ) (first : Code) : Type 0 where

@@ -6,8 +6,6 @@ pub mod Chosen
 pub mod Writing
 pub mod Rows
 pub mod RowStrings
-pub mod Tokens
-pub mod NarrowTokens
 pub mod Strings
 pub mod Parts
 pub mod Walk
@@ -19,3 +17,4 @@ mod LaneRuns
 pub mod BlockParts
 pub mod OneBlock
 pub mod OneString
+mod RunTable

@@ -10,8 +10,8 @@ use Rattle.stream_syntax.specs.PixelBlocks.{Part, string, table, line_end, strin
 use Rattle.stream_syntax.specs.declared.map_table.MapTable.{MapTable}
 use Rattle.stream_syntax.specs.declared.map_table.MapTable.TheVariants.{TwoToFour, TwoToEight, FourToEight}
 use Rattle.pixel_codes.specs.Private.Spelling.{width_of}
-use Rattle.pixel_codes.proofs.Strings.{string_of-cons, behind}
-use Rattle.pixel_codes.proofs.Tokens.{token_spelled, token_ending}
+use Rattle.code_strings.proofs.Strings.{string_of-cons, behind}
+use Rattle.code_strings.proofs.Tokens.{token_spelled, token_ending}
 use Rattle.pixel_codes.proofs.Parts.{same_part, no_part, same_depth}
 
 -- ---- codes

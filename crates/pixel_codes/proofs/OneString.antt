@@ -1,5 +1,5 @@
 -- A row has one string: a run has one list of chosen codes, and the bits of a string are those of one list of bytes.
-use Rattle.std.proofs.Common.{◌≡◌, ◌∙◌, ℕ, zero, suc, ◌+◌, ◌*◌, ◌%◌, ◌^◌, ◌<◌, ◌≤◌, inl, inr, List, [], ◌∷◌, ◌++◌, length, map, take, drop, replicate, refl, sym, ap, subst, arith, All}
+use Rattle.std.proofs.Common.{◌≡◌, ◌∙◌, ℕ, zero, suc, ◌<◌, ◌≤◌, inl, inr, List, [], ◌∷◌, ◌++◌, length, map, take, drop, replicate, refl, sym, ap, subst, arith, All}
 use Rattle.std.specs.Prelude.{flat_map}
 use Rattle.std.proofs.Math.Nat.{mod-eq_of_lt}
 use Rattle.std.proofs.Math.Seq.{drop-append_seam, take-append_seam}
@@ -7,11 +7,11 @@ use Rattle.std.proofs.lemmas.List.{length-append, length-replicate}
 use Rattle.std.proofs.lemmas.List.Elements.{All-cons, All-head, All-tail}
 use Rattle.sub_base.specs.declared.depth.Depth.{Depth}
 use Rattle.stream_syntax.specs.Fields.{number_of}
-use Rattle.stream_syntax.specs.PixelCodes.{bits, bits_of, Code, IsCode, pixel_count, colour_of, pixels_of, Gives, bits_in, string_of, IsAtLeast, IsChosen, AreChosen, Span, IsRowString}
+use Rattle.stream_syntax.specs.PixelCodes.{bits, bits_of, Code, IsCode, pixel_count, colour_of, pixels_of, bits_in, string_of, IsAtLeast, IsChosen, AreChosen, Span, IsRowString}
 use Rattle.pixel_codes.specs.Private.Spelling.{width_of}
-use Rattle.pixel_codes.proofs.Bits.{length-bits, length-bits_of, number_of-bits}
+use Rattle.code_strings.proofs.Bits.{length-bits, length-bits_of, number_of-bits}
 use Rattle.pixel_codes.proofs.Chosen.{bits_in-cons}
-use Rattle.pixel_codes.proofs.NarrowTokens.{width_some}
+use Rattle.code_strings.proofs.NarrowTokens.{width_some}
 use Rattle.pixel_codes.proofs.OneBlock.{one_code}
 use Rattle.pixel_codes.proofs.Sizes.{one_runs}
 

@@ -11,11 +11,11 @@ use Rattle.sub_base.specs.declared.depth.Depth.TheVariants.{Two, Four, Eight}
 use Rattle.stream_syntax.specs.PixelCodes.{bits_of, Code, IsCode, pixel_count, colour_of, pixels_of, spelled, ending, string_of, Gives, bits_in, Span, AreApart, AreMaximalRuns, AreChosen, IsLeastSum, IsRowString, IsRowSize}
 use Rattle.std.proofs.lemmas.Bool.Decides.{nat_tests}
 use Rattle.pixel_codes.specs.Private.Least.{two_some, two_none, four_some, four_none, eight_some, eight_none, table_bits, chosen}
-use Rattle.pixel_codes.proofs.Tokens.{end_width, length-ending}
+use Rattle.code_strings.proofs.Tokens.{end_width, length-ending}
 use Rattle.pixel_codes.specs.Lists.{Extends}
 use Rattle.pixel_codes.specs.Private.Rows.{span_of, extended, runs_of, codes_of}
 use Rattle.pixel_codes.specs.Private.Spelling.{width_of}
-use Rattle.pixel_codes.proofs.Bits.{length-bits_of, bits_of-append}
+use Rattle.code_strings.proofs.Bits.{length-bits_of, bits_of-append}
 use Rattle.pixel_codes.proofs.Table.{table_step}
 use Rattle.pixel_codes.proofs.Chosen.{chosen_gives, chosen_bits, chosen_is, table_least, table_0, bits_in-cons}
 

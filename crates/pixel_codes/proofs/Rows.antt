@@ -12,7 +12,7 @@ use Rattle.stream_syntax.specs.PixelCodes.{bits, Code, pixel, one_zero, two_zero
 use Rattle.pixel_codes.specs.Private.Least.{first_code, chosen_within, chosen}
 use Rattle.pixel_codes.specs.Private.Rows.{span_of, extended, runs_of, codes_of}
 use Rattle.pixel_codes.specs.Private.Spelling.{width_of, value_of}
-use Rattle.pixel_codes.proofs.Bits.{bits-join}
+use Rattle.code_strings.proofs.Bits.{bits-join}
 use Rattle.pixel_codes.proofs.DeepFirst.{first_is}
 
 -- ---- the bits of a code as a number

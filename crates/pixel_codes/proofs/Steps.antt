@@ -11,14 +11,14 @@ use Rattle.stream_syntax.specs.declared.map_table.MapTable.{MapTable}
 use Rattle.stream_syntax.specs.declared.map_table.MapTable.TheVariants.{TwoToFour, TwoToEight, FourToEight}
 use Rattle.pixel_codes.specs.declared.part.Head.{Head}
 use Rattle.pixel_codes.specs.declared.part.Head.TheVariants.{Table}
-use Rattle.pixel_codes.specs.declared.token.Token.{Token}
-use Rattle.pixel_codes.specs.declared.token.Token.TheVariants.{Pixels, End}
-use Rattle.pixel_codes.specs.Private.Reading.{token_at}
+use Rattle.code_strings.specs.declared.token.Token.{Token}
+use Rattle.code_strings.specs.declared.token.Token.TheVariants.{Pixels, End}
+use Rattle.code_strings.specs.Reading.{token_at}
 use Rattle.pixel_codes.specs.Private.Parts.{head_of}
 use Rattle.pixel_codes.specs.Private.Walk.{Maps, with_table, mapped_by, Pen, run_of, runs_after_head, runs_at_token, runs_within, runs_left}
 use Rattle.pixel_codes.specs.Private.Cursor.{bits_left}
-use Rattle.pixel_codes.proofs.Bits.{IsBits-bits_of, length-bits_of}
-use Rattle.pixel_codes.proofs.NarrowTokens.{token_reads, width_some}
+use Rattle.code_strings.proofs.Bits.{IsBits-bits_of, length-bits_of}
+use Rattle.code_strings.proofs.NarrowTokens.{token_reads, width_some}
 use Rattle.pixel_codes.proofs.Walk.{step_part, step_token}
 
 -- ---- at a sub-block

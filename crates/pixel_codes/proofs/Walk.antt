@@ -13,15 +13,15 @@ use Rattle.stream_syntax.specs.declared.map_table.MapTable.TheVariants.{TwoToFou
 use Rattle.stream_syntax.specs.declared.pixel_run.Run.{Run}
 use Rattle.pixel_codes.specs.declared.part.Head.{Head}
 use Rattle.pixel_codes.specs.declared.part.Head.TheVariants.{PixelString, Table, LineEnd}
-use Rattle.pixel_codes.specs.declared.token.Token.{Token}
-use Rattle.pixel_codes.specs.declared.token.Token.TheVariants.{Pixels, End}
-use Rattle.pixel_codes.specs.Private.Reading.{token_at}
+use Rattle.code_strings.specs.declared.token.Token.{Token}
+use Rattle.code_strings.specs.declared.token.Token.TheVariants.{Pixels, End}
+use Rattle.code_strings.specs.Reading.{token_at}
 use Rattle.pixel_codes.specs.Private.Parts.{head_of}
 use Rattle.pixel_codes.specs.Private.Walk.{half_of, mapped_by, with_table, Pen, start_pen, Onward, run_of, runs_after_token, runs_at_token, runs_after_head, runs_within, runs_left, runs_in}
-use Rattle.pixel_codes.proofs.Bits.{length-bits_of, bits_of-append, IsBits-bits_of}
-use Rattle.pixel_codes.proofs.Tokens.{width_of, end_width, length-spelled, length-ending, token_spelled, token_ending, StandsAt}
-use Rattle.pixel_codes.proofs.NarrowTokens.{token_reads, width_some}
-use Rattle.pixel_codes.proofs.Strings.{string_of-cons, behind}
+use Rattle.code_strings.proofs.Bits.{length-bits_of, bits_of-append, IsBits-bits_of}
+use Rattle.code_strings.proofs.Tokens.{width_of, end_width, length-spelled, length-ending, token_spelled, token_ending, StandsAt}
+use Rattle.code_strings.proofs.NarrowTokens.{token_reads, width_some}
+use Rattle.code_strings.proofs.Strings.{string_of-cons, behind}
 use Rattle.pixel_codes.proofs.Parts.{head_of-string, head_of-table}
 
 -- ---- the steps that are left do not matter, as long as they are enough

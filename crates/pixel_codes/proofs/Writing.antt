@@ -7,7 +7,7 @@ use Rattle.std.proofs.Math.Pow.{pow_mono}
 use Rattle.std.specs.Int.{w32, to_be_bytes}
 use Rattle.stream_syntax.specs.PixelCodes.{bits, bits_of}
 use Rattle.pixel_codes.specs.Lists.{Extends}
-use Rattle.pixel_codes.proofs.Bits.{bits-add, bits-mod, bits-join, bits_of-append}
+use Rattle.code_strings.proofs.Bits.{bits-add, bits-mod, bits-join, bits_of-append}
 
 pub extends_none : (a : List ℕ) → Extends a a
 extends_none a = ([], sym (append-nil a))

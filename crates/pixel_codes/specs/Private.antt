@@ -1,5 +1,4 @@
 -- What functions of this crate do inside: no other crate cites these.
-pub mod Reading
 pub mod Least
 pub mod Parts
 pub mod Walk

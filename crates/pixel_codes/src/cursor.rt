@@ -1,12 +1,12 @@
 ghost use Rattle.std.specs.Prelude.{◌≡◌, ◌+◌, ◌-◌, ◌*◌, ◌≤◌, [], ◌∷◌, length, Some, None, MatchOption};
 ghost use Rattle.std.specs.Option.{ForNone};
 ghost use Rattle.stream_syntax.specs.PixelCodes.{bits_of};
-ghost use Rattle.pixel_codes.specs.Private.Reading.{token_at};
-ghost use Rattle.pixel_codes.specs.declared.token.Token.TheVariants.{Pixels};
+ghost use Rattle.code_strings.specs.Reading.{token_at};
+ghost use Rattle.code_strings.specs.declared.token.Token.TheVariants.{Pixels};
 
 use crate::part::{Head, head_of, size_of_table};
 use crate::tables::Tables;
-use crate::token::{Token, read_token};
+use code_strings::{Token, read_token};
 use stream_syntax::Run;
 use sub_base::Depth;
 

@@ -3,20 +3,19 @@
 //! against the grammar and read as the runs that it draws, in place.
 #![tactic(auto)]
 
-// Writing a row: the next code of a run, the bits that wait, and the size.
+// Writing a row: the next code of a run, short runs by a table, the bits that wait, and the size.
 mod choice;
 mod least;
 mod maximal;
 mod pending;
 mod row;
+mod run_table;
 mod size;
 
-// Reading a block: its sub-blocks, codes and map tables.
+// Reading a block: its sub-blocks and map tables.
 mod cursor;
-mod field;
 mod part;
 mod tables;
-mod token;
 
 // Blocks that were checked, and their runs.
 mod block;

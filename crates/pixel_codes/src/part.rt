@@ -1,9 +1,8 @@
 ghost use Rattle.std.specs.Prelude.{◌≡◌, ℕ, ◌+◌, ◌<◌, ◌≤◌, length, take, IsTrue, ◌↔◌, IfOk, IfErr, IfSome, IfNone, List, ◌∷◌, ◌++◌};
-ghost use Rattle.stream_syntax.specs.PixelCodes.{Code, IsString};
 ghost use Rattle.stream_syntax.specs.PixelBlocks.{Part, IsPart, IsRefused, IsNoDeeper, table_size};
 ghost use Rattle.pixel_codes.specs.Private.Parts as parts;
 
-use crate::token::{Token, read_token};
+use code_strings::string_end;
 use stream_syntax::{
     CodeKind, EIGHT_BIT_STRING, END_OF_LINE, FOUR_BIT_STRING, FOUR_TO_EIGHT_TABLE, MapTable,
     TWO_BIT_STRING, TWO_TO_EIGHT_TABLE, TWO_TO_FOUR_TABLE,
@@ -56,44 +55,6 @@ pub fn is_no_deeper(depth: Depth, region: Depth) -> bool
     }
 }
 
-/// The bytes of the string that begins these, with its end and the fill; none where no end comes.
-fn string_size(body: &[u8], depth: Depth) -> Option<usize>
-    requires { length body.now ≤ 65535 }
-    ensures found { IfSome result
-        (λ size. (size ≤ length body.now) × (codes : List Code)
-        × IsString depth codes (take size body.now)) }
-    ensures none { IfNone result
-        ((codes : List Code) (front : List ℕ) (rest : List ℕ) → body.now ≡ front ++ rest
-        → IsString depth codes front → ⊥) }
-{
-    match depth {
-        Depth::Two => string_size_of(body, Depth::Two),
-        Depth::Four => string_size_of(body, Depth::Four),
-        Depth::Eight => string_size_of(body, Depth::Eight),
-    }
-}
-
-/// The same, inlined at each depth.
-#[inline(always)]
-fn string_size_of(body: &[u8], depth: Depth) -> Option<usize>
-    requires { length body.now ≤ 65535 }
-    ensures found { IfSome result
-        (λ size. (size ≤ length body.now) × (codes : List Code)
-        × IsString depth codes (take size body.now)) }
-    ensures none { IfNone result
-        ((codes : List Code) (front : List ℕ) (rest : List ℕ) → body.now ≡ front ++ rest
-        → IsString depth codes front → ⊥) }
-{
-    let mut place = 0;
-    while let Some((token, next)) = read_token(body, place, depth) {
-        match token {
-            Token::End => return Some((next + 7) / 8),
-            Token::Pixels { .. } => place = next,
-        }
-    }
-    None
-}
-
 /// The bytes of the sub-block with this type byte and what follows it, or why none begins so.
 pub(crate) fn part_size(first: u8, body: &[u8], region: Depth) -> Result<usize, CodeKind>
     requires { length body.now ≤ 65534 }
@@ -107,7 +68,7 @@ pub(crate) fn part_size(first: u8, body: &[u8], region: Depth) -> Result<usize, 
         Some(Head::LineEnd) => Ok(1),
         Some(Head::PixelString(depth)) => {
             if is_no_deeper(depth, region) {
-                let size = string_size(body, depth).ok_or(CodeKind::CutString)?;
+                let size = string_end(body, depth).ok_or(CodeKind::CutString)?;
                 Ok(1 + size)
             } else {
                 Err(CodeKind::TooDeep)

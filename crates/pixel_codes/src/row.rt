@@ -9,6 +9,7 @@ ghost use Rattle.pixel_codes.specs.Private.Stream.{stream};
 use crate::choice::first_spelling;
 use crate::maximal::run_length;
 use crate::pending::Pending;
+use crate::run_table::two_bit_run;
 use sub_base::{Depth, NoMemory};
 
 /// Appends the pixel code string of a row of pixel codes with its end code, filled with bits 0 to
@@ -74,6 +75,29 @@ fn append_row_of(depth: Depth, codes: &[u8], out: &mut Vec<u8>) -> Result<(), No
 /// Appends the codes of a run.
 #[inline(always)]
 fn append_run(
+    depth: Depth,
+    code: u8,
+    count: usize,
+    pending: &mut Pending,
+    out: &mut Vec<u8>,
+) -> Result<(), NoMemory>
+    requires { code < code_count depth }
+    ensures text { OnOk result (stream out.new.items pending.new
+        ≡ stream out.old.items pending.old
+        ++ flat_map (spelled depth) (chosen depth code count)) }
+    ensures extends { Extends out.old.items out.new.items }
+{
+    // Most runs of text are short, and the codes of one are put at once.
+    if depth == Depth::Two && count < 64 {
+        let run = two_bit_run(code, count);
+        return pending.push(run.bits, run.width, out);
+    }
+    append_codes(depth, code, count, pending, out)
+}
+
+/// The same, one code after another.
+#[inline(always)]
+fn append_codes(
     depth: Depth,
     code: u8,
     count: usize,

@@ -9,7 +9,7 @@ use Rattle.sub_base.specs.declared.depth.Depth.TheVariants.{Two, Four, Eight}
 use Rattle.stream_syntax.specs.Fields.{number_of}
 use Rattle.stream_syntax.specs.PixelCodes.{Code, IsRowString, bits, bits_of, ending, long_run, middle_run, one_zero, pixel, short_run, spelled, string_of, two_zeros, zeros}
 use Rattle.pixel_codes.specs.Private.Rows.{codes_of, runs_of}
-use Rattle.pixel_codes.proofs.Bits.{IsBits, bits-mod, bits-number_of}
+use Rattle.code_strings.proofs.Bits.{IsBits, bits-mod, bits-number_of}
 use Rattle.pixel_codes.proofs.RowStrings.{row_string}
 
 -- ---- bits

@@ -9,9 +9,9 @@ use Rattle.stream_syntax.specs.declared.map_table.MapTable.TheVariants.{TwoToFou
 use Rattle.stream_syntax.specs.declared.pixel_run.Run.{Run}
 use Rattle.pixel_codes.specs.declared.part.Head.{Head}
 use Rattle.pixel_codes.specs.declared.part.Head.TheVariants.{PixelString, Table, LineEnd}
-use Rattle.pixel_codes.specs.declared.token.Token.{Token}
-use Rattle.pixel_codes.specs.declared.token.Token.TheVariants.{Pixels, End}
-use Rattle.pixel_codes.specs.Private.Reading.{token_at}
+use Rattle.code_strings.specs.declared.token.Token.{Token}
+use Rattle.code_strings.specs.declared.token.Token.TheVariants.{Pixels, End}
+use Rattle.code_strings.specs.Reading.{token_at}
 use Rattle.pixel_codes.specs.Private.Parts.{head_of}
 
 -- the bytes of the map tables that hold

@@ -7,8 +7,8 @@ pub returns-in_ok-size-in-Some-PixelString-clause-part :
 returns-in_ok-size-in-Some-PixelString-clause-part c =
     let p = c.in-Some-PixelString in
     let first = is_string c.args.first c.head_of.result p.field-0 p.depth c.head_of.ensures p.is p.field-0-is in
-    string_part c.args.region p.depth c.args.first c.args.body.now c.string_size.result
-    c.in_ok-size-in-Some-PixelString.size first (c.if-is_no_deeper.ensures.0 refl) c.string_size.ensures.found
+    string_part c.args.region p.depth c.args.first c.args.body.now c.string_end.result
+    c.in_ok-size-in-Some-PixelString.size first (c.if-is_no_deeper.ensures.0 refl) c.string_end.ensures.found
     c.in_ok-size-in-Some-PixelString.ensures.ok_part
 
 pub returns-else-body-size-clause-part : goal.returns-else-body-size-clause-part

@@ -1,6 +1,6 @@
 use Rattle.std.proofs.Common.{◌≡◌, length, sym, ap, ◌∙◌}
 use Rattle.stream_syntax.specs.PixelCodes.{ending}
-use Rattle.pixel_codes.proofs.Bits.{length-bits}
+use Rattle.code_strings.proofs.Bits.{length-bits}
 use Rattle.pixel_codes.proofs.RowStrings.{row_size}
 use Rattle.pixel_codes.proofs.RowSizes.{row_sized}
 use Rattle.pixel_codes.proofs.Sizes.{one_row_size}

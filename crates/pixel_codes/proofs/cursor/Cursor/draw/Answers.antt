@@ -1,7 +1,7 @@
 use Rattle.std.proofs.Common.{◌≡◌, sym, ap, ◌∙◌, ◌+◌, ◌∷◌, ◌++◌, List, arith, Some, Option, ℕ}
 use Rattle.sub_base.specs.declared.depth.Depth.{Depth}
 use Rattle.stream_syntax.specs.declared.pixel_run.Run.{Run}
-use Rattle.pixel_codes.specs.declared.token.Token.TheVariants.{Pixels}
+use Rattle.code_strings.specs.declared.token.Token.TheVariants.{Pixels}
 use Rattle.pixel_codes.specs.Private.Tables.{maps_of}
 use Rattle.pixel_codes.specs.Private.Walk.{Pen, runs_left}
 use Rattle.pixel_codes.specs.Private.Cursor.{pen_of}

@@ -1,5 +1,5 @@
 use Rattle.std.proofs.Common.{refl, sym, ap, ◌∙◌, List, arith, Some, None, ℕ}
-use Rattle.pixel_codes.specs.declared.token.Token.TheVariants.{End}
+use Rattle.code_strings.specs.declared.token.Token.TheVariants.{End}
 use Rattle.pixel_codes.specs.Private.Walk.{runs_left}
 use Rattle.pixel_codes.specs.Private.Cursor.{pen_of}
 use Rattle.pixel_codes.proofs.Steps.{at_token, end_fits, read_is, bits_left-some}

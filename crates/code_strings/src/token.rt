@@ -1,13 +1,13 @@
 ghost use Rattle.std.specs.Prelude.{◌≡◌, ◌+◌, ◌*◌, ◌^◌, ◌<◌, ◌≤◌, length, IfSome};
 ghost use Rattle.stream_syntax.specs.PixelCodes.{bits_of};
-ghost use Rattle.pixel_codes.specs.Private.Reading.{two_at, two_long_at, four_at, four_run_at, eight_at, token_at};
+ghost use Rattle.code_strings.specs.Reading.{two_at, two_long_at, four_at, four_run_at, eight_at, token_at};
 
 use crate::field::field;
 use sub_base::Depth;
 
 /// What a code of a string says: pixels of one pixel code, or the end of the string.
 #[derive(Clone, Copy, Debug, PartialEq, Eq)]
-pub(crate) enum Token {
+pub enum Token {
     Pixels { length: u32, code: u8 },
     End,
 }
@@ -15,7 +15,7 @@ pub(crate) enum Token {
 /// The code at bit `place` of a string of a depth, and the place after it; none where the bytes end
 /// before.
 #[inline(always)]
-pub(crate) fn read_token(bytes: &[u8], place: usize, depth: Depth) -> Option<(Token, usize)>
+pub fn read_token(bytes: &[u8], place: usize, depth: Depth) -> Option<(Token, usize)>
     requires bytes { length bytes.now ≤ 65535 }
     requires place { place ≤ 8 * length bytes.now }
     ensures { result ≡ token_at depth (bits_of bytes.now) place }
@@ -28,7 +28,7 @@ pub(crate) fn read_token(bytes: &[u8], place: usize, depth: Depth) -> Option<(To
 }
 
 #[inline(always)]
-#[tactic(auto, unfolding(crate::specs::Private::Reading::two_at))]
+#[tactic(auto, unfolding(crate::specs::Reading::two_at))]
 fn two_bit_token(bytes: &[u8], place: usize) -> Option<(Token, usize)>
     requires bytes { length bytes.now ≤ 65535 }
     requires place { place ≤ 8 * length bytes.now }
@@ -54,7 +54,7 @@ fn two_bit_token(bytes: &[u8], place: usize) -> Option<(Token, usize)>
 
 /// The rest of a 2 bit code behind four bits 0.
 #[inline(always)]
-#[tactic(auto, unfolding(crate::specs::Private::Reading::two_long_at))]
+#[tactic(auto, unfolding(crate::specs::Reading::two_long_at))]
 fn two_bit_long_token(bytes: &[u8], place: usize) -> Option<(Token, usize)>
     requires bytes { length bytes.now ≤ 65535 }
     requires place { place ≤ 8 * length bytes.now }
@@ -78,7 +78,7 @@ fn two_bit_long_token(bytes: &[u8], place: usize) -> Option<(Token, usize)>
 }
 
 #[inline(always)]
-#[tactic(auto, unfolding(crate::specs::Private::Reading::four_at))]
+#[tactic(auto, unfolding(crate::specs::Reading::four_at))]
 fn four_bit_token(bytes: &[u8], place: usize) -> Option<(Token, usize)>
     requires bytes { length bytes.now ≤ 65535 }
     requires place { place ≤ 8 * length bytes.now }
@@ -100,7 +100,7 @@ fn four_bit_token(bytes: &[u8], place: usize) -> Option<(Token, usize)>
 
 /// The rest of a 4 bit code behind four bits 0 and a bit 1, whose next three bits are `form`.
 #[inline(always)]
-#[tactic(auto, unfolding(crate::specs::Private::Reading::four_run_at))]
+#[tactic(auto, unfolding(crate::specs::Reading::four_run_at))]
 fn four_bit_run_token(bytes: &[u8], place: usize, form: u8) -> Option<(Token, usize)>
     requires bytes { length bytes.now ≤ 65535 }
     requires place { place ≤ 8 * length bytes.now }
@@ -127,7 +127,7 @@ fn four_bit_run_token(bytes: &[u8], place: usize, form: u8) -> Option<(Token, us
 }
 
 #[inline(always)]
-#[tactic(auto, unfolding(crate::specs::Private::Reading::eight_at))]
+#[tactic(auto, unfolding(crate::specs::Reading::eight_at))]
 fn eight_bit_token(bytes: &[u8], place: usize) -> Option<(Token, usize)>
     requires bytes { length bytes.now ≤ 65535 }
     requires place { place ≤ 8 * length bytes.now }

@@ -5,11 +5,11 @@ use Rattle.std.proofs.lemmas.Bool.Decides.{nat_tests}
 use Rattle.sub_base.specs.declared.depth.Depth.{Depth}
 use Rattle.sub_base.specs.declared.depth.Depth.TheVariants.{Two, Four, Eight}
 use Rattle.stream_syntax.specs.PixelCodes.{bits, Code, pixel, one_zero, two_zeros, zeros, short_run, middle_run, long_run, IsCode, pixel_count, colour_of, spelled, ending}
-use Rattle.pixel_codes.specs.declared.token.Token.{Token}
-use Rattle.pixel_codes.specs.declared.token.Token.TheVariants.{Pixels, End}
-pub use Rattle.pixel_codes.specs.Private.Spelling.{width_of}
-use Rattle.pixel_codes.specs.Private.Reading.{field_at, two_at, two_long_at, four_at, four_run_at, eight_at, token_at}
-use Rattle.pixel_codes.proofs.Bits.{length-bits, bits-add, bits-mod, bits-join, IsBits, field_spelled, field_reads, Reads, drop-next}
+use Rattle.code_strings.specs.declared.token.Token.{Token}
+use Rattle.code_strings.specs.declared.token.Token.TheVariants.{Pixels, End}
+pub use Rattle.code_strings.specs.Widths.{width_of}
+use Rattle.code_strings.specs.Reading.{field_at, two_at, two_long_at, four_at, four_run_at, eight_at, token_at}
+use Rattle.code_strings.proofs.Bits.{length-bits, bits-add, bits-mod, bits-join, IsBits, field_spelled, field_reads, Reads, drop-next}
 
 abbrev pub end_width : Depth → ℕ
 end_width Two = 6

@@ -1,7 +1,7 @@
 use Rattle.std.proofs.Common.{◌*◌, ◌-◌, length}
 use Rattle.stream_syntax.specs.PixelCodes.{bits_of}
-use Rattle.pixel_codes.proofs.Strings.{Reached}
-use Rattle.pixel_codes.proofs.part.string_size_of.Given as goal
+use Rattle.code_strings.specs.Reached.{Reached}
+use Rattle.code_strings.proofs.ending.end_behind.Given as goal
 
 abbrev pub invariant-loop-token : goal.invariant-loop-token
 invariant-loop-token l = Reached l.depth (bits_of l.body) l.place

@@ -1,9 +1,9 @@
 use Rattle.std.proofs.Common.{sym, ◌∙◌, arith}
 use Rattle.stream_syntax.specs.PixelCodes.{bits_of}
-use Rattle.pixel_codes.specs.declared.token.Token.TheVariants.{Pixels, End}
-use Rattle.pixel_codes.proofs.Bits.{length-bits_of}
-use Rattle.pixel_codes.proofs.Strings.{reached_more, string_found, no_string, read_stands, read_further}
-use Rattle.pixel_codes.proofs.part.string_size_of.Goals as goal
+use Rattle.code_strings.specs.declared.token.Token.TheVariants.{Pixels, End}
+use Rattle.code_strings.proofs.Bits.{length-bits_of}
+use Rattle.code_strings.proofs.Strings.{reached_more, string_found, no_string, read_stands, read_further}
+use Rattle.code_strings.proofs.ending.end_behind.Goals as goal
 
 pub read_token-requires-clause-place : goal.read_token-requires-clause-place
 read_token-requires-clause-place c = omega (arith, length-bits_of c.args.body.now, c.loop-token.invariant.within)

@@ -3,8 +3,8 @@ use Rattle.std.specs.Prelude.{ℕ, ◌+◌, ◌-◌, ◌*◌, ◌==◌, if◌the
 use Rattle.sub_base.specs.declared.depth.Depth.{Depth}
 use Rattle.sub_base.specs.declared.depth.Depth.TheVariants.{Two, Four, Eight}
 use Rattle.stream_syntax.specs.Fields.{number_of}
-use Rattle.pixel_codes.specs.declared.token.Token.{Token}
-use Rattle.pixel_codes.specs.declared.token.Token.TheVariants.{Pixels, End}
+use Rattle.code_strings.specs.declared.token.Token.{Token}
+use Rattle.code_strings.specs.declared.token.Token.TheVariants.{Pixels, End}
 
 infixl 10 ◌>>=◌
 abbrev pub ◌>>=◌ : {A B : Type 0} → Option A → (A → Option B) → Option B
@@ -26,6 +26,7 @@ two_long_at xs place = do
       else (field_at xs (place + 2) 8 >>= λ count. field_at xs (place + 10) 2 >>= λ code. Some
       (Pixels (count + 29) code, place + 12))))
 
+-- a 2 bit code at a place
 unfoldable pub two_at : List ℕ → ℕ → Option (Token × ℕ)
 two_at xs place = do
   first ← field_at xs place 2
@@ -45,6 +46,7 @@ four_run_at xs place form =
     else (field_at xs place 8 >>= λ count. field_at xs (place + 8) 4 >>= λ code. Some
     (Pixels (count + 25) code, place + 12)))))
 
+-- a 4 bit code at a place
 unfoldable pub four_at : List ℕ → ℕ → Option (Token × ℕ)
 four_at xs place = do
   first ← field_at xs place 4
@@ -54,6 +56,7 @@ four_at xs place = do
       four_run_at xs (place + 8) (second - 8)))
       else Some (Pixels 1 first, place + 4)
 
+-- an 8 bit code at a place
 unfoldable pub eight_at : List ℕ → ℕ → Option (Token × ℕ)
 eight_at xs place = do
   first ← field_at xs place 8

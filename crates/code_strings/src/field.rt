@@ -1,6 +1,6 @@
 ghost use Rattle.std.specs.Prelude.{◌≡◌, ◌+◌, ◌*◌, ◌^◌, ◌<◌, ◌≤◌, length, IfSome};
 ghost use Rattle.stream_syntax.specs.PixelCodes.{bits_of};
-ghost use Rattle.pixel_codes.specs.Private.Reading.{field_at};
+ghost use Rattle.code_strings.specs.Reading.{field_at};
 
 /// The number in `width` bits from bit `place` on, the highest first; none where the bytes end
 /// before.

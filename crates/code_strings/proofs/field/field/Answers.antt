@@ -2,8 +2,8 @@ use Rattle.std.proofs.Common.{◌≡◌, ℕ, ◌+◌, ◌*◌, ◌/◌, ◌%◌
 use Rattle.std.proofs.lemmas.Nat.{one_shl}
 use Rattle.std.specs.Prelude.{Option, unwrap_or}
 use Rattle.stream_syntax.specs.PixelCodes.{bits_of}
-use Rattle.pixel_codes.proofs.Bits.{field_is, field_past, length-bits_of}
-use Rattle.pixel_codes.proofs.field.field.Goals as goal
+use Rattle.code_strings.proofs.Bits.{field_is, field_past, length-bits_of}
+use Rattle.code_strings.proofs.field.field.Goals as goal
 
 pub returns-then-bytes-place-clause-value : goal.returns-then-bytes-place-clause-value
 returns-then-bytes-place-clause-value c =

@@ -1,15 +1,15 @@
 -- Tokens of four and of two bits: what is spelled is read, and what is read is spelled so.
-use Rattle.std.proofs.Common.{◌≡◌, ℕ, ◌+◌, ◌-◌, ◌*◌, ◌/◌, ◌%◌, ◌<◌, ◌≤◌, true, false, eqb, ltb, List, ◌++◌, length, drop, Some, refl, sym, ap, ◌∙◌, append_assoc, arith}
+use Rattle.std.proofs.Common.{◌≡◌, ℕ, ◌+◌, ◌-◌, ◌*◌, ◌/◌, ◌%◌, ◌<◌, ◌≤◌, eqb, ltb, List, ◌++◌, length, drop, Some, refl, sym, ap, ◌∙◌, append_assoc, arith}
 use Rattle.std.proofs.lemmas.Bool.{ltb-false, ltb-true, eqb-true, eqb-false}
 use Rattle.sub_base.specs.declared.depth.Depth.{Depth}
 use Rattle.sub_base.specs.declared.depth.Depth.TheVariants.{Two, Four, Eight}
 use Rattle.stream_syntax.specs.PixelCodes.{bits, Code, pixel, one_zero, two_zeros, zeros, short_run, middle_run, long_run, IsCode, spelled, ending}
-use Rattle.pixel_codes.specs.declared.token.Token.{Token}
-use Rattle.pixel_codes.specs.declared.token.Token.TheVariants.{Pixels, End}
-use Rattle.pixel_codes.specs.Private.Spelling.{width_of}
-use Rattle.pixel_codes.specs.Private.Reading.{field_at, two_at, two_long_at, four_at, four_run_at, token_at}
-use Rattle.pixel_codes.proofs.Bits.{bits-join, IsBits, field_reads}
-use Rattle.pixel_codes.proofs.Tokens.{short_two, zero_ahead, StandsAt, cases_option, cases_bool, keep, nothing, leaf, grow, as_spelled, within_to, eight_reads}
+use Rattle.code_strings.specs.declared.token.Token.{Token}
+use Rattle.code_strings.specs.declared.token.Token.TheVariants.{Pixels, End}
+use Rattle.code_strings.specs.Widths.{width_of}
+use Rattle.code_strings.specs.Reading.{field_at, two_at, two_long_at, four_at, four_run_at, token_at}
+use Rattle.code_strings.proofs.Bits.{bits-join, IsBits, field_reads}
+use Rattle.code_strings.proofs.Tokens.{short_two, zero_ahead, StandsAt, cases_option, cases_bool, keep, nothing, leaf, grow, as_spelled, within_to, eight_reads}
 
 -- ---- four bits
 four_end_text : bits 4 0 ++ bits 4 0 ≡ ending Four

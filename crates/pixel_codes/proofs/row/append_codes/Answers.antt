@@ -1,7 +1,7 @@
 use Rattle.pixel_codes.specs.Private.Stream.{stream}
 use Rattle.pixel_codes.proofs.Writing.{extends_trans}
 use Rattle.pixel_codes.proofs.Rows.{one_code, no_code}
-use Rattle.pixel_codes.proofs.row.append_run.Goals as goal
+use Rattle.pixel_codes.proofs.row.append_codes.Goals as goal
 
 pub loop-left-preserved : goal.loop-left-preserved
 loop-left-preserved c =

@@ -4,7 +4,7 @@ use Rattle.stream_syntax.specs.PixelCodes.{spelled}
 use Rattle.pixel_codes.specs.Private.Least.{chosen}
 use Rattle.pixel_codes.specs.Lists.{Extends}
 use Rattle.pixel_codes.specs.Private.Stream.{stream}
-use Rattle.pixel_codes.proofs.row.append_run.Given as goal
+use Rattle.pixel_codes.proofs.row.append_codes.Given as goal
 
 abbrev pub invariant-loop-left : goal.invariant-loop-left
 invariant-loop-left l = record {
