@@ -1,0 +1,8 @@
+mod Bytes
+mod PaintedColumns
+pub mod Laying
+pub mod Written
+mod Fields
+mod Codes
+mod Strings
+mod Halves

@@ -1,0 +1,54 @@
+use Rattle.std.proofs.Common.{◌∙◌, sym, ap, subst, ◌<◌, ◌≤◌, ◌++◌, Some, arith}
+use Rattle.sub_base.specs.Depth.{code_count}
+use Rattle.stream_syntax.specs.PixelCodes.{bits_of}
+use Rattle.code_strings.specs.declared.token.Token.{Token}
+use Rattle.string_painting.specs.Painting.{laid_over}
+use Rattle.string_painting.specs.Private.Reading.{token_length, token_code}
+use Rattle.string_painting.proofs.Strings.{at_start, at_next, at_end, at_none}
+use Rattle.string_painting.proofs.painter.paint_codes.Goals as goal
+
+pub loop-token-init : goal.loop-token-init
+loop-token-init c = record {
+  within = omega arith;
+  room = omega (arith, c.requires.room);
+  walk = λ codes front behind e s.
+      at_start c.args.brush.string c.args.string.now front behind codes c.args.brush.region
+      (laid_over c.args.brush c.args.table.now) c.args.start.width c.args.start.x c.args.row.now e s;
+}
+
+pub returns-in-End : goal.returns-in-End
+returns-in-End c = λ codes front rest e s.
+    let d =
+    at_end c.args.brush.string c.args.string.now front rest codes c.loop-token.place c.in-Some.next
+    c.args.brush.region (laid_over c.args.brush c.args.table.now) c.args.start.width c.args.start.x c.loop-token.x
+    c.args.row.now c.loop-token.row s (c.loop-token.invariant.walk codes front rest e s)
+    (sym c.read_token.ensures.token ∙ c.in-Some.is ∙ ap (λ (t : Token). Some (t, c.in-Some.next)) c.in-End.is) in
+    record { painted = d.painted; size_is = c.started_bytes.ensures ∙ d.size; column_is = d.column }
+
+pub lay_pixels-requires-clause-code : goal.lay_pixels-requires-clause-code
+lay_pixels-requires-clause-code c =
+    subst (λ (t : Token). token_code t < code_count c.args.brush.string) c.in-Pixels.is c.in-Some.ensures.within.narrow
+
+pub loop-token-preserved : goal.loop-token-preserved
+loop-token-preserved c =
+    let moved = c.in-Some.ensures.within in
+    let short : c.in-Pixels.length ≤ 284 = subst (λ (t : Token). token_length t ≤ 284) c.in-Pixels.is moved.short in
+    record {
+      within = moved.within;
+      room = omega (arith, short, moved.on, moved.within, c.loop-token.invariant.room);
+      walk = λ codes front behind e s.
+          at_next c.args.brush.string c.args.string.now codes (s.fill ++ bits_of behind) c.loop-token.place
+          c.in-Some.next c.in-Pixels.length c.in-Pixels.code c.args.brush.region
+          (laid_over c.args.brush c.args.table.now) c.args.start.width c.args.start.x c.loop-token.x c.args.row.now
+          c.loop-token.row c.lay_pixels.new.row (c.loop-token.invariant.walk codes front behind e s)
+          (sym c.read_token.ensures.token ∙ c.in-Some.is
+          ∙ ap (λ (t : Token). Some (t, c.in-Some.next)) c.in-Pixels.is)
+          c.lay_pixels.ensures;
+    }
+
+pub returns : goal.returns
+returns c = λ codes front rest e s.
+    absurd (at_none c.args.brush.string c.args.string.now codes (s.fill ++ bits_of rest) c.loop-token.place
+    c.args.brush.region (laid_over c.args.brush c.args.table.now) c.args.start.width c.args.start.x c.loop-token.x
+    c.args.row.now c.loop-token.row (c.loop-token.invariant.walk codes front rest e s)
+    (sym c.read_token.ensures.token ∙ c.in_default.is))

@@ -1,0 +1,21 @@
+-- What painting of a string does, whatever string begins the bytes.
+use Rattle.std.specs.Prelude.{◌≡◌, ℕ, ◌+◌, List, ◌++◌, length}
+use Rattle.stream_syntax.specs.PixelCodes.{Code, IsString}
+use Rattle.string_painting.specs.Painting.{laid_over, LaysPixels, pixels_of_codes}
+use Rattle.string_painting.specs.declared.drawing.Brush.{Brush}
+use Rattle.string_painting.specs.declared.drawing.RowPlace.{RowPlace}
+use Rattle.string_painting.specs.declared.painter.Painted.{Painted}
+
+-- the string of these codes was painted, which is so many bytes
+pub record IsStringLaid (brush : Brush) (table : List ℕ) (place : RowPlace) (codes : List Code) (size : ℕ)
+    (told : Painted) (old new : List ℕ) : Type 0 where
+  pub painted :
+      LaysPixels brush.region (laid_over brush table) place.width place.x (pixels_of_codes brush.string codes) old new
+  pub size_is : told.size ≡ size
+  pub column_is : told.x ≡ place.x + length (pixels_of_codes brush.string codes)
+
+-- whatever string begins the bytes was painted
+abbrev pub PaintsString : Brush → List ℕ → RowPlace → List ℕ → Painted → List ℕ → List ℕ → Type 0
+PaintsString brush table place string told old new = (codes : List Code) (front rest : List ℕ)
+    → string ≡ front ++ rest → IsString brush.string codes front
+    → IsStringLaid brush table place codes (length front) told old new

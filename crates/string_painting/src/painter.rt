@@ -1,0 +1,135 @@
+//! A string painted from its first code to its end.
+
+ghost use Rattle.std.specs.Prelude.{◌≡◌, ℕ, ◌+◌, ◌*◌, ◌^◌, ◌<◌, ◌≤◌, List, ◌++◌, length};
+ghost use Rattle.sub_base.specs.Depth.{code_count};
+ghost use Rattle.stream_syntax.specs.PixelCodes.{Code, IsString};
+ghost use Rattle.pixel_store.specs.Codes.{codes_in_byte};
+ghost use Rattle.string_painting.specs.Painting.{IsMapTable, laid_over, LaysPixels, pixels_of_codes};
+ghost use Rattle.string_painting.specs.Private.Strings.{PaintsString};
+
+use crate::drawing::{Brush, RowPlace, lay_pixels};
+use crate::packing::started_bytes;
+use crate::token::read_token;
+use code_strings::Token;
+use sub_base::Depth;
+
+/// What was painted.
+#[derive(Clone, Copy, Debug, PartialEq, Eq)]
+pub struct Painted {
+    /// The bytes of the string, with its end and the fill to a whole byte.
+    pub size: usize,
+    /// The column behind its last pixel.
+    pub x: u32,
+}
+
+/// Paints the string that begins some bytes into a row of a region, from a column on (EN 300 743,
+/// 2-bit, 4-bit and 8-bit pixel code strings). Pixels behind the region's last column are not
+/// painted. `table` are the bytes of the map table between the two depths, as they stand in a
+/// block; where the depths are the same they are not looked at. Of bytes that begin no string the
+/// codes before their end may be painted.
+pub fn paint_string(
+    row: &mut [u8],
+    place: RowPlace,
+    string: &[u8],
+    brush: Brush,
+    table: &[u8],
+) -> Painted
+    requires width { place.width ≤ length row.old * codes_in_byte brush.region }
+    requires table { IsMapTable brush table.now }
+    requires room { place.x + 284 * (8 * length string.now) < 2 ^ 32 }
+    ensures painted { (codes : List Code) (front rest : List ℕ) → string.now ≡ front ++ rest
+        → IsString brush.string codes front
+        → LaysPixels brush.region (laid_over brush table.now) place.width place.x
+        (pixels_of_codes brush.string codes) row.old row.new }
+    ensures size { (codes : List Code) (front rest : List ℕ) → string.now ≡ front ++ rest
+        → IsString brush.string codes front → result.size ≡ length front }
+    ensures column { (codes : List Code) (front rest : List ℕ) → string.now ≡ front ++ rest
+        → IsString brush.string codes front
+        → result.x ≡ place.x + length (pixels_of_codes brush.string codes) }
+{
+    paint_at_depths(row, place, string, brush, table)
+}
+
+/// The same, with depths that are known where codes are read and put.
+fn paint_at_depths(
+    row: &mut [u8],
+    place: RowPlace,
+    string: &[u8],
+    brush: Brush,
+    table: &[u8],
+) -> Painted
+    requires width { place.width ≤ length row.old * codes_in_byte brush.region }
+    requires table { IsMapTable brush table.now }
+    requires room { place.x + 284 * (8 * length string.now) < 2 ^ 32 }
+    ensures { PaintsString brush table.now place string.now result row.old row.new }
+{
+    match (brush.string, brush.region) {
+        (Depth::Two, Depth::Two) => {
+            let known = brush.at_depths(Depth::Two, Depth::Two);
+            paint_codes(row, place, string, known, table)
+        }
+        (Depth::Two, Depth::Four) => {
+            let known = brush.at_depths(Depth::Two, Depth::Four);
+            paint_codes(row, place, string, known, table)
+        }
+        (Depth::Two, Depth::Eight) => {
+            let known = brush.at_depths(Depth::Two, Depth::Eight);
+            paint_codes(row, place, string, known, table)
+        }
+        (Depth::Four, Depth::Four) => {
+            let known = brush.at_depths(Depth::Four, Depth::Four);
+            paint_codes(row, place, string, known, table)
+        }
+        (Depth::Four, Depth::Eight) => {
+            let known = brush.at_depths(Depth::Four, Depth::Eight);
+            paint_codes(row, place, string, known, table)
+        }
+        (Depth::Eight, Depth::Eight) => {
+            let known = brush.at_depths(Depth::Eight, Depth::Eight);
+            paint_codes(row, place, string, known, table)
+        }
+        // No string is deeper than its region.
+        _ => paint_codes(row, place, string, brush, table),
+    }
+}
+
+/// Paints code after code.
+#[inline(always)]
+fn paint_codes(
+    row: &mut [u8],
+    start: RowPlace,
+    string: &[u8],
+    brush: Brush,
+    table: &[u8],
+) -> Painted
+    requires width { start.width ≤ length row.old * codes_in_byte brush.region }
+    requires table { IsMapTable brush table.now }
+    requires room { start.x + 284 * (8 * length string.now) < 2 ^ 32 }
+    ensures { PaintsString brush table.now start string.now result row.old row.new }
+{
+    let mut x = start.x;
+    let mut place = 0;
+    while let Some((token, next)) = read_token(string, place, brush.string) {
+        match token {
+            Token::End => {
+                return Painted {
+                    size: started_bytes(brush.string, next),
+                    x,
+                };
+            }
+            Token::Pixels { length, code } => {
+                let pen = RowPlace {
+                    width: start.width,
+                    x,
+                };
+                lay_pixels(row, pen, brush, table, length, code);
+                x += length;
+                place = next;
+            }
+        }
+    }
+    Painted {
+        size: string.len(),
+        x,
+    }
+}
