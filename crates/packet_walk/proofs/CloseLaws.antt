@@ -8,7 +8,7 @@ use Rattle.packet_source.specs.Packets.{Gave, IsWithin, stream_length}
 use Rattle.packet_source.specs.declared.limits.TheConstants.{STREAM_LIMIT}
 use Rattle.packet_source.specs.declared.stream_end.StreamEnd.TheVariants as stream
 use Rattle.packet_walk.specs.ToldEnds.{IsToldEnd, IsFront, Telling}
-use Rattle.packet_walk.specs.Walking.{IsTold}
+use Rattle.packet_walk.specs.Walking.{IsToldFrom}
 use Rattle.packet_walk.specs.declared.walk.Refused.{Refused}
 use Rattle.packet_walk.specs.declared.walk.WalkEnd.{WalkEnd}
 use Rattle.packet_walk.specs.declared.walk.WalkEnd.TheVariants as end
@@ -45,7 +45,7 @@ goes_on now ended = absurd (clash ended)
 -- a front of what was told was written
 told_front : (Told : Telling) (is_end : Bool) (pid : ℕ) (before now : Supplied) (start out : Received)
     (buffer : Buffered) (packets : List (List ℕ)) (rest : List ℕ) → (is_end ≡ true → IsAtEnd now.left)
-    → IsTold (Told is_end) pid before now start out buffer packets rest → IsFront Told pid before now start out
+    → IsToldFrom (Told is_end) pid before now start out buffer packets rest → IsFront Told pid before now start out
 told_front Told is_end pid before now start out buffer packets rest at_end told =
     record {
       packets = packets;
@@ -78,7 +78,7 @@ closed_failed before now old new run puts failed = λ start text. λ out.
 -- a write fault where the text was told
 write_fault : (Told : Telling) (is_end : Bool) (pid : ℕ) (before now : Supplied) (start out next : Received)
     (buffer : Buffered) (packets : List (List ℕ)) (rest : List ℕ) → (is_end ≡ true → IsAtEnd now.left)
-    → (told : IsTold (Told is_end) pid before now start out buffer packets rest) → IsWithin packets rest
+    → (told : IsToldFrom (Told is_end) pid before now start out buffer packets rest) → IsWithin packets rest
     → AppendsPrefix start.written next.written told.text → HasRisen start.faults next.faults
     → IsToldEnd Told pid before now start next told_end.Unwritten
 write_fault Told is_end pid before now start out next buffer packets rest at_end told within front risen = (

@@ -3,7 +3,7 @@ use Rattle.std.proofs.Common.{ℕ, List, ◌++◌}
 use Rattle.packet_source.specs.declared.stream_end.StreamEnd.TheVariants as stream
 use Rattle.command_text.specs.Putting.{Buffered, PutsOut}
 use Rattle.sub_base.specs.Endpoints.{Received, Supplied}
-use Rattle.packet_walk.specs.Walking.{IsEnd, IsTold}
+use Rattle.packet_walk.specs.Walking.{IsEnd, IsToldFrom}
 use Rattle.packet_walk.specs.declared.walk.WalkEnd.{WalkEnd}
 use Rattle.packet_walk.specs.declared.walk.WalkEnd.TheVariants as end
 
@@ -11,8 +11,8 @@ module _ (Told Other : List (List ℕ) → List ℕ → Type 0) where
   same_told : (pid : ℕ) (before now : Supplied) (start out : Received) (buffer : Buffered) (packets : List (List ℕ))
       (rest : List ℕ)
       → ((packets : List (List ℕ)) (text : List ℕ) → Told packets text → Other packets text)
-      → IsTold Told pid before now start out buffer packets rest
-      → IsTold Other pid before now start out buffer packets rest
+      → IsToldFrom Told pid before now start out buffer packets rest
+      → IsToldFrom Other pid before now start out buffer packets rest
   same_told pid before now start out buffer packets rest same told = record {
     taken = told.taken;
     text = told.text;

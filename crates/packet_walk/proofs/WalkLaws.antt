@@ -14,7 +14,7 @@ use Rattle.sub_base.proofs.TransferSteps.{HasRisen-since}
 use Rattle.stream_syntax.specs.TransportPackets.{packet_fault}
 use Rattle.command_text.specs.Putting.{Buffered, IsPutOut}
 use Rattle.packet_walk.specs.Told.{HasTaken, HasTold, Tells}
-use Rattle.packet_walk.specs.Walking.{IsEnd, IsTold}
+use Rattle.packet_walk.specs.Walking.{IsEnd, IsToldFrom}
 use Rattle.packet_walk.specs.declared.walk.Refused.{Refused}
 use Rattle.packet_walk.specs.declared.walk.WalkEnd.TheVariants as end
 
@@ -113,7 +113,7 @@ module _ {Teller : Type 0} (stands : Teller → List (List ℕ) → List ℕ →
   -- what was told of the packets before those in hand
   told_before : (pid : ℕ) (before now : Supplied) (start out : Received) (teller : Teller) (buffer : Buffered)
       (hand : InHand) (come : HasCome pid before now start out teller buffer hand)
-      → IsTold (stands teller) pid before now start out buffer come.packets hand.bytes
+      → IsToldFrom (stands teller) pid before now start out buffer come.packets hand.bytes
   told_before pid before now start out teller buffer hand come = record {
     taken = record { gave = come.source.gave; passed = come.told.passed };
     text = come.told.text;
@@ -133,7 +133,7 @@ module _ {Teller : Type 0} (stands : Teller → List (List ℕ) → List ℕ →
       come : HasCome pid before now start out teller buffer new
       come = walked_on pid before mid now start out teller buffer old new walked goes
 
-      told : IsTold (stands teller) pid before now start out buffer come.packets new.bytes
+      told : IsToldFrom (stands teller) pid before now start out buffer come.packets new.bytes
       told = told_before pid before now start out teller buffer new come
 
       within : IsLastRest new → IsWithin come.packets new.bytes

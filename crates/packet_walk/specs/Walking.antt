@@ -14,7 +14,7 @@ use Rattle.packet_walk.specs.declared.walk.WalkEnd.{WalkEnd}
 use Rattle.packet_walk.specs.declared.walk.WalkEnd.TheVariants as end
 
 -- the source gave these packets and the rest, and a text that is told of the packets was put out
-pub record IsTold (Told : List (List ℕ) → List ℕ → Type 0) (pid : ℕ) (before now : Supplied)
+pub record IsToldFrom (Told : List (List ℕ) → List ℕ → Type 0) (pid : ℕ) (before now : Supplied)
     (start out : Received)
     (buffer : Buffered) (packets : List (List ℕ)) (rest : List ℕ) : Type 0 where
   pub taken : AreTaken pid before now packets rest
@@ -27,19 +27,19 @@ abbrev pub IsEnd : (List (List ℕ) → List ℕ → Type 0) → ℕ → Supplie
     → Received → Buffered
     → WalkEnd → Type 0
 IsEnd Told pid before now start out buffer (end.Stream (stream.Whole cut)) =
-    (packets : List (List ℕ)) × (rest : List ℕ) × IsTold Told pid before now start out buffer packets rest
+    (packets : List (List ℕ)) × (rest : List ℕ) × IsToldFrom Told pid before now start out buffer packets rest
     × IsWithin packets rest × (length rest < PACKET_LENGTH) × (cut ≡ length rest) × IsAtEnd now.left
 IsEnd Told pid before now start out buffer (end.Stream stream.Unread) =
-    (packets : List (List ℕ)) × (rest : List ℕ) × IsTold Told pid before now start out buffer packets rest
+    (packets : List (List ℕ)) × (rest : List ℕ) × IsToldFrom Told pid before now start out buffer packets rest
     × IsWithin packets rest × (length rest < PACKET_LENGTH) × HasReadFault before now
 IsEnd Told pid before now start out buffer (end.Stream stream.TooLong) =
-    (packets : List (List ℕ)) × (rest : List ℕ) × IsTold Told pid before now start out buffer packets rest
+    (packets : List (List ℕ)) × (rest : List ℕ) × IsToldFrom Told pid before now start out buffer packets rest
     × HasRisenPast STREAM_LIMIT before.given now.given
 IsEnd Told pid before now start out buffer (end.Refused refused) =
     (packets : List (List ℕ)) × (packet : List ℕ) × (rest : List ℕ)
-    × IsTold Told pid before now start out buffer packets (packet ++ rest) × IsWithin packets (packet ++ rest)
+    × IsToldFrom Told pid before now start out buffer packets (packet ++ rest) × IsWithin packets (packet ++ rest)
     × (length packet ≡ PACKET_LENGTH) × (refused.packet ≡ length packets)
     × (packet_fault pid packet ≡ Some refused.fault)
 IsEnd Told pid before now start out buffer end.Unwritten =
-    (packets : List (List ℕ)) × (rest : List ℕ) × IsTold Told pid before now start out buffer packets rest
+    (packets : List (List ℕ)) × (rest : List ℕ) × IsToldFrom Told pid before now start out buffer packets rest
     × IsWithin packets rest × (buffer.failed ≡ true)

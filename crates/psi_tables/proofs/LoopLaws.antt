@@ -6,10 +6,12 @@ use Rattle.std.proofs.lemmas.Bool.{le-ltb, lt-ltb}
 use Rattle.std.proofs.lemmas.Bool.Decides.{nat_tests}
 use Rattle.std.proofs.lemmas.List.{length-take-le, take_rest}
 use Rattle.std.proofs.lemmas.List.Sums.{sum_by-cons}
-use Rattle.stream_syntax.specs.Tests.{byte_at}
-use Rattle.psi_tables.specs.Loops.{Stream, are_descriptors, are_streams, descriptor_size, descriptors_of, descriptors_within, first_descriptors, first_size, stream_size, streams_of, streams_within, thirteen_at, twelve_at}
+use Rattle.stream_syntax.specs.Tests.{byte_at, word_at}
+use Rattle.psi_tables.specs.Loops.{Stream, are_descriptors, are_streams, descriptor_size, descriptors_of, descriptors_within, entries_of, first_descriptors, first_size, stream_size, streams_of, streams_within, thirteen_at, twelve_at}
 use Rattle.psi_tables.specs.Services.{is_subtitles, is_subtitling, pid_listed, subtitle_pid}
-use Rattle.psi_tables.specs.Walking.{IsFirstDescriptor, IsFirstStream, stream_value}
+use Rattle.psi_tables.specs.Walking.{IsFirstDescriptor, IsFirstEntry, IsFirstStream, entry_value, stream_value}
+use Rattle.psi_tables.specs.declared.loops.DescriptorEntry.{DescriptorEntry}
+use Rattle.psi_tables.specs.declared.loops.ProgrammeEntry.{ProgrammeEntry}
 use Rattle.psi_tables.specs.declared.loops.StreamEntry.{StreamEntry}
 
 -- ---- descriptors
@@ -46,20 +48,21 @@ descriptors_more (byte ∷ bytes) head whole =
     (descriptors-enough (length bytes) (length (drop size (byte ∷ bytes))) (drop size (byte ∷ bytes))
     (omega (arith, less)) (omega arith)))
 
-pub descriptor_first : (bytes behind : List ℕ) → 2 ≤ length bytes → 2 + byte_at 1 bytes ≤ length bytes
-    → behind ≡ take (length bytes - (2 + byte_at 1 bytes)) (drop (2 + byte_at 1 bytes) bytes)
-    → IsFirstDescriptor bytes (byte_at 0 bytes) behind
-descriptor_first bytes behind head whole is =
-    let rest : behind ≡ drop (2 + byte_at 1 bytes) bytes = is ∙ take_rest bytes (2 + byte_at 1 bytes) in
+pub descriptor_first : (bytes : List ℕ) (entry : DescriptorEntry) (size : ℕ) → size ≡ byte_at 1 bytes
+    → 2 ≤ length bytes → 2 + size ≤ length bytes
+    → (entry.tag ≡ byte_at 0 bytes) × (entry.content.now ≡ take (2 + size - 2) (drop 2 bytes))
+    → IsFirstDescriptor bytes entry (take (length bytes - (2 + size)) (drop (2 + size) bytes))
+descriptor_first bytes entry size size_is head whole says =
+    let fits : 2 + byte_at 1 bytes ≤ length bytes = omega (arith, size_is, whole) in
+    let content : entry.content.now ≡ take (byte_at 1 bytes) (drop 2 bytes) =
+    says.1 ∙ ap (λ n. take n (drop 2 bytes)) (omega (arith, size_is)) in
+    let behind : take (length bytes - (2 + size)) (drop (2 + size) bytes) ≡ drop (2 + byte_at 1 bytes) bytes =
+    take_rest bytes (2 + size) ∙ ap (λ n. drop (2 + n) bytes) size_is in
     let long : length (take (byte_at 1 bytes) (drop 2 bytes)) ≡ byte_at 1 bytes =
-    length-take-le (byte_at 1 bytes) (drop 2 bytes) (omega (arith, length-drop 2 bytes)) in
+    length-take-le (byte_at 1 bytes) (drop 2 bytes) (omega (arith, length-drop 2 bytes, fits)) in
     record {
-      content = take (byte_at 1 bytes) (drop 2 bytes);
-      first =
-          descriptors_more bytes head whole
-          ∙ ap (λ more. record { tag = byte_at 0 bytes; content = take (byte_at 1 bytes) (drop 2 bytes) }
-          ∷ descriptors_of more) (sym rest);
-      size = omega (arith, long, ap length rest, length-drop (2 + byte_at 1 bytes) bytes);
+      first = descriptors_more bytes head fits ∙ rw (behind, says.0, content) refl;
+      size = omega (arith, long, ap length content, ap length behind, length-drop (2 + byte_at 1 bytes) bytes, fits);
     }
 
 -- none is whole
@@ -93,18 +96,20 @@ are_descriptors-more bytes behind tag content first all =
     let long : length bytes ≡ size + length behind = omega (arith, all) in
     rw (total, long) (same-sum size (sum_by descriptor_size (descriptors_of behind)) (length behind))
 
-pub are_descriptors_next : (bytes behind : List ℕ) (tag : ℕ) → IsFirstDescriptor bytes tag behind
-    → are_descriptors bytes ≡ are_descriptors behind
-are_descriptors_next bytes behind tag is = are_descriptors-more bytes behind tag is.content is.first is.size
+pub are_descriptors_next : (bytes behind : List ℕ) (entry : DescriptorEntry)
+    → IsFirstDescriptor bytes entry behind → are_descriptors bytes ≡ are_descriptors behind
+are_descriptors_next bytes behind entry is =
+    are_descriptors-more bytes behind entry.tag entry.content.now is.first is.size
 
 pub are_descriptors_end : (bytes : List ℕ) → descriptors_of bytes ≡ []
     → are_descriptors bytes ≡ (length bytes == 0)
 are_descriptors_end bytes none = rw none (grind (arith, nat_tests))
 
-pub any_descriptor_next : (bytes behind : List ℕ) (tag : ℕ) → IsFirstDescriptor bytes tag behind
+pub any_descriptor_next : (bytes behind : List ℕ) (entry : DescriptorEntry)
+    → IsFirstDescriptor bytes entry behind
     → list_any is_subtitling (descriptors_of bytes)
-    ≡ (tag == 0x59 || list_any is_subtitling (descriptors_of behind))
-any_descriptor_next bytes behind tag is = rw is.first refl
+    ≡ (entry.tag == 0x59 || list_any is_subtitling (descriptors_of behind))
+any_descriptor_next bytes behind entry is = rw is.first refl
 
 pub any_descriptor_end : (bytes : List ℕ) → descriptors_of bytes ≡ []
     → list_any is_subtitling (descriptors_of bytes) ≡ false
@@ -230,26 +235,38 @@ subtitle_pid_end bytes none = rw none refl
 
 -- ---- entries
 
-pub pid_listed_next : (service : ℕ) (bytes : List ℕ) → 4 ≤ length bytes
-    → pid_listed service bytes
-    ≡ (if get_or bytes 0 0 * 256 + get_or bytes 1 0 == service then Some (thirteen_at 2 bytes)
-    else pid_listed service (drop 4 bytes))
-pid_listed_next service (a ∷ b ∷ c ∷ d ∷ bytes) long = by_test (a * 256 + b == service) refl
+pub entry_first : (bytes behind : List ℕ) (entry : ProgrammeEntry) → 4 ≤ length bytes
+    → (entry.number ≡ word_at 0 bytes) × (entry.pid ≡ thirteen_at 2 bytes)
+    → behind ≡ take (length bytes - 4) (drop 4 bytes) → IsFirstEntry bytes entry behind
+entry_first (a ∷ b ∷ c ∷ d ∷ bytes) behind entry long says is =
+    let rest : behind ≡ bytes = is ∙ take_rest (a ∷ b ∷ c ∷ d ∷ bytes) 4 in
+    record {
+      first = rw (rest, says.0, says.1) refl;
+      size = omega (arith, ap length rest);
+    }
+entry_first [] behind entry long says is = absurd (omega arith)
+entry_first (a ∷ []) behind entry long says is = absurd (omega arith)
+entry_first (a ∷ b ∷ []) behind entry long says is = absurd (omega arith)
+entry_first (a ∷ b ∷ c ∷ []) behind entry long says is = absurd (omega arith)
+
+pub entry_short : (bytes : List ℕ) → length bytes < 4 → entries_of bytes ≡ []
+entry_short [] short = refl
+entry_short (a ∷ []) short = refl
+entry_short (a ∷ b ∷ []) short = refl
+entry_short (a ∷ b ∷ c ∷ []) short = refl
+entry_short (a ∷ b ∷ c ∷ d ∷ bytes) short = absurd (omega arith)
+
+pub pid_listed_next : (service : ℕ) (bytes behind : List ℕ) (entry : ProgrammeEntry)
+    → IsFirstEntry bytes entry behind
+    → pid_listed service bytes ≡ (if entry.number == service then Some entry.pid else pid_listed service behind)
+pid_listed_next service bytes behind entry is = rw is.first (by_test (entry.number == service) refl)
   where
-    by_test : (found : Bool) → (a * 256 + b == service) ≡ found
-        → pid_listed service (a ∷ b ∷ c ∷ d ∷ bytes)
-        ≡ (if a * 256 + b == service then Some (thirteen_at 2 (a ∷ b ∷ c ∷ d ∷ bytes))
-        else pid_listed service bytes)
+    by_test : (found : Bool) → (entry.number == service) ≡ found
+        → option_map (λ listed. listed.pid)
+        (find (λ listed. listed.number == service) (entry_value entry ∷ entries_of behind))
+        ≡ (if entry.number == service then Some entry.pid else pid_listed service behind)
     by_test true e = rw e refl
     by_test false e = rw e refl
-pid_listed_next service [] long = absurd (omega arith)
-pid_listed_next service (a ∷ []) long = absurd (omega arith)
-pid_listed_next service (a ∷ b ∷ []) long = absurd (omega arith)
-pid_listed_next service (a ∷ b ∷ c ∷ []) long = absurd (omega arith)
 
-pub pid_listed_end : (service : ℕ) (bytes : List ℕ) → length bytes < 4 → pid_listed service bytes ≡ None
-pid_listed_end service [] short = refl
-pid_listed_end service (a ∷ []) short = refl
-pid_listed_end service (a ∷ b ∷ []) short = refl
-pid_listed_end service (a ∷ b ∷ c ∷ []) short = refl
-pid_listed_end service (a ∷ b ∷ c ∷ d ∷ bytes) short = absurd (omega arith)
+pub pid_listed_end : (service : ℕ) (bytes : List ℕ) → entries_of bytes ≡ [] → pid_listed service bytes ≡ None
+pid_listed_end service bytes none = rw none refl

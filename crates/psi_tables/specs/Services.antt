@@ -1,7 +1,8 @@
 -- What programme tables name: the PID of a service's PMT, and the PID of its subtitles.
-use Rattle.std.specs.Prelude.{ℕ, ◌==◌, Bool, ◌&&◌, if◌then◌else◌, List, Option, Some, None, find, option_map}
+use Rattle.std.specs.Prelude.{ℕ, ◌==◌, nat_lt, Bool, ◌&&◌, ◌||◌, if◌then◌else◌, List, length, Option, Some, None, find, option_map}
 use Rattle.std.specs.List.{list_any}
-use Rattle.psi_tables.specs.Loops.{Descriptor, Stream, descriptors_of, entries_of, streams_of}
+use Rattle.stream_syntax.specs.declared.wire.TheConstants.{NULL_PID}
+use Rattle.psi_tables.specs.Loops.{Descriptor, Stream, descriptors_of, entries_of, streams_of, thirteen_at}
 use Rattle.psi_tables.specs.Sections.{SectionValue, Pat, Pmt, right_section}
 
 -- the PID that entries of a PAT list for a service, the first of them
@@ -40,3 +41,11 @@ pmt_in service section = named_by (pmt_named service) (right_section section)
 
 abbrev pub pid_in : ℕ → List ℕ → Option ℕ
 pid_in service section = named_by (pid_named service) (right_section section)
+
+-- ---- the clock
+
+-- the PID of a PMT's clock (PCR_PID): the low 13 bits of the first two bytes behind the eight of the head. 1FFF says
+-- that there is none
+abbrev pub clock_in : List ℕ → Option ℕ
+clock_in section =
+    if nat_lt (length section) 10 || thirteen_at 8 section == NULL_PID then None else Some (thirteen_at 8 section)

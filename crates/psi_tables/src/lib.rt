@@ -19,6 +19,10 @@ mod writing;
 pub use checksum::crc;
 pub use fault::SectionFault;
 pub use laws::{own_crc, read_again, section_laws};
-pub use section::{Section, read_section};
+pub use loops::{
+    DescriptorEntry, PRIVATE_DATA, ProgrammeEntry, SUBTITLING, StreamEntry, first_descriptor,
+    first_entry, first_stream,
+};
+pub use section::{Section, clock_pid, read_section};
 pub use service::Service;
 pub use writing::{write_pat, write_pmt};

@@ -2,9 +2,9 @@
 
 ghost use Rattle.std.specs.Prelude.{◌≡◌, ◌==◌, ◌<◌, [], length, MatchOption, find, option_map};
 ghost use Rattle.std.specs.List.{list_any};
-ghost use Rattle.psi_tables.specs.Loops.{are_descriptors, are_entries, are_streams, descriptors_of, streams_of};
+ghost use Rattle.psi_tables.specs.Loops.{are_descriptors, are_entries, are_streams, descriptors_of, entries_of, streams_of};
 ghost use Rattle.psi_tables.specs.Services.{is_subtitles, is_subtitling, pid_listed, subtitle_pid};
-ghost use Rattle.psi_tables.specs.Walking.{IsFirstDescriptor, IsFirstStream, stream_value};
+ghost use Rattle.psi_tables.specs.Walking.{IsFirstDescriptor, IsFirstEntry, IsFirstStream, stream_value};
 
 use crate::word::{thirteen_at, twelve_at, word_at};
 
@@ -18,20 +18,38 @@ const STREAM_HEAD: usize = 5;
 const DESCRIPTOR_HEAD: usize = 2;
 
 /// The stream type of private data in PES packets (ISO/IEC 13818-1, table 2-34).
-pub(crate) const PRIVATE_DATA: u8 = 0x06;
+pub const PRIVATE_DATA: u8 = 0x06;
 
 /// The tag of a descriptor of subtitles (EN 300 468, 6.2.41).
-pub(crate) const SUBTITLING: u8 = 0x59;
+pub const SUBTITLING: u8 = 0x59;
 
-/// A stream of a PMT.
+/// A programme in a PAT (ISO/IEC 13818-1, 2.4.4.3).
+#[derive(Clone, Copy, Debug, PartialEq, Eq)]
+pub struct ProgrammeEntry {
+    /// Its number (program_number). The number 0 stands for the network's PID.
+    pub number: u16,
+    /// The PID of its PMT (program_map_PID).
+    pub pid: u16,
+}
+
+/// A descriptor (ISO/IEC 13818-1, 2.6).
 #[derive(Clone, Copy)]
-pub(crate) struct StreamEntry<'a> {
+pub struct DescriptorEntry<'a> {
+    /// Its kind (descriptor_tag).
+    pub tag: u8,
+    /// The bytes that its length counts.
+    pub content: &'a [u8],
+}
+
+/// A stream of a PMT (ISO/IEC 13818-1, 2.4.4.8).
+#[derive(Clone, Copy)]
+pub struct StreamEntry<'a> {
     /// What it carries (stream_type).
-    kind: u8,
+    pub kind: u8,
     /// Its PID (elementary_PID).
-    pid: u16,
+    pub pid: u16,
     /// Its descriptors.
-    descriptors: &'a [u8],
+    pub descriptors: &'a [u8],
 }
 
 impl StreamEntry<'_> {
@@ -45,9 +63,9 @@ impl StreamEntry<'_> {
 
 // ---- descriptors
 
-/// The tag of the descriptor that begins the bytes, and the bytes behind it; none where it is cut.
+/// The descriptor that begins the bytes, and the bytes behind it; none where it is cut.
 #[tactic(auto, using(crate::proofs::LoopLaws::descriptor_first, crate::proofs::LoopLaws::descriptor_short, crate::proofs::LoopLaws::descriptor_cut))]
-fn first_descriptor(bytes: &[u8]) -> Option<(u8, &[u8])>
+pub fn first_descriptor(bytes: &[u8]) -> Option<(DescriptorEntry<'_>, &[u8])>
     ensures { MatchOption result (descriptors_of bytes.now ≡ [])
         (λ found. IsFirstDescriptor bytes.now found.0 found.1.now) }
 {
@@ -58,7 +76,11 @@ fn first_descriptor(bytes: &[u8]) -> Option<(u8, &[u8])>
     if bytes.len() < end {
         return None;
     }
-    Some((bytes[0], &bytes[end..]))
+    let descriptor = DescriptorEntry {
+        tag: bytes[0],
+        content: &bytes[DESCRIPTOR_HEAD..end],
+    };
+    Some((descriptor, &bytes[end..]))
 }
 
 /// Whether bytes are whole descriptors.
@@ -79,8 +101,8 @@ fn has_subtitling(descriptors: &[u8]) -> bool
     ensures { result ≡ list_any is_subtitling (descriptors_of descriptors.now) }
 {
     let mut rest = descriptors;
-    while let Some((tag, behind)) = first_descriptor(rest) {
-        if tag == SUBTITLING {
+    while let Some((descriptor, behind)) = first_descriptor(rest) {
+        if descriptor.tag == SUBTITLING {
             return true;
         }
         rest = behind;
@@ -92,7 +114,7 @@ fn has_subtitling(descriptors: &[u8]) -> bool
 
 /// The stream that begins the bytes, and the bytes behind it; none where it is cut.
 #[tactic(auto, using(crate::proofs::LoopLaws::stream_first, crate::proofs::LoopLaws::stream_short, crate::proofs::LoopLaws::stream_cut))]
-fn first_stream(bytes: &[u8]) -> Option<(StreamEntry<'_>, &[u8])>
+pub fn first_stream(bytes: &[u8]) -> Option<(StreamEntry<'_>, &[u8])>
     ensures { MatchOption result (streams_of bytes.now ≡ [])
         (λ found. IsFirstStream bytes.now found.0 found.1.now) }
 {
@@ -143,6 +165,22 @@ pub(crate) fn subtitle_pid(streams: &[u8]) -> Option<u16>
 
 // ---- entries
 
+/// The programme that begins the entries of a PAT, and the bytes behind it; none where it is cut.
+#[tactic(auto, using(crate::proofs::LoopLaws::entry_first, crate::proofs::LoopLaws::entry_short))]
+pub fn first_entry(bytes: &[u8]) -> Option<(ProgrammeEntry, &[u8])>
+    ensures { MatchOption result (entries_of bytes.now ≡ [])
+        (λ found. IsFirstEntry bytes.now found.0 found.1.now) }
+{
+    if bytes.len() < ENTRY {
+        return None;
+    }
+    let entry = ProgrammeEntry {
+        number: word_at(bytes, 0),
+        pid: thirteen_at(bytes, 2),
+    };
+    Some((entry, &bytes[ENTRY..]))
+}
+
 /// Whether bytes are whole entries of a PAT.
 pub(crate) fn are_entries(bytes: &[u8]) -> bool
     ensures { result ≡ are_entries bytes.now }
@@ -156,11 +194,11 @@ pub(crate) fn pid_listed(number: u16, entries: &[u8]) -> Option<u16>
     ensures { result ≡ pid_listed number entries.now }
 {
     let mut rest = entries;
-    while rest.len() >= ENTRY {
-        if word_at(rest, 0) == number {
-            return Some(thirteen_at(rest, 2));
+    while let Some((entry, behind)) = first_entry(rest) {
+        if entry.number == number {
+            return Some(entry.pid);
         }
-        rest = &rest[ENTRY..];
+        rest = behind;
     }
     None
 }

@@ -1,11 +1,12 @@
 ghost use Rattle.std.specs.Prelude.{◌≡◌, ◌==◌, ◌||◌, true, Some, IsOkAnd, MatchResult, if◌then◌else◌};
 ghost use Rattle.psi_tables.specs.Sections.{Pat, Pmt, SectionValue, contents, is_body, is_cut, is_pmt_body, right_section, section_fault, streams_in};
-ghost use Rattle.psi_tables.specs.Services.{pid_named, pmt_named};
+ghost use Rattle.psi_tables.specs.Services.{clock_in, pid_named, pmt_named};
 
 use crate::checksum::crc;
 use crate::fault::SectionFault;
 use crate::loops::{are_descriptors, are_entries, are_streams, pid_listed, subtitle_pid};
-use crate::word::{twelve_at, word_at};
+use crate::word::{thirteen_at, twelve_at, word_at};
+use stream_syntax::NULL_PID;
 
 /// The table id of a PAT (ISO/IEC 13818-1, table 2-31).
 pub(crate) const PAT: u8 = 0x00;
@@ -72,6 +73,18 @@ impl Section<'_> {
             _ => None,
         }
     }
+}
+
+/// The PID of the clock of a PMT (PCR_PID), by the bytes of its section; none where they are too
+/// short or say that there is none.
+pub fn clock_pid(section: &[u8]) -> Option<u16>
+    ensures { result ≡ clock_in section.now }
+{
+    if section.len() < HEAD + 2 {
+        return None;
+    }
+    let pid = thirteen_at(section, HEAD);
+    if pid == NULL_PID { None } else { Some(pid) }
 }
 
 /// Reads the section that begins the bytes; other bytes may follow it. Nothing is copied, and

@@ -18,7 +18,7 @@ use Rattle.command_text.specs.Putting.{Buffered, IsPutOut}
 use Rattle.packet_source.specs.Packets.{Gave}
 use Rattle.packet_source.specs.declared.stream_end.StreamEnd.{StreamEnd}
 use Rattle.packet_source.specs.declared.stream_end.StreamEnd.TheVariants as stream
-use Rattle.packet_walk.specs.Walking.{IsEnd, IsTold}
+use Rattle.packet_walk.specs.Walking.{IsEnd, IsToldFrom}
 use Rattle.packet_walk.specs.declared.walk.Refused.{Refused}
 use Rattle.packet_walk.specs.declared.walk.WalkEnd.{WalkEnd}
 use Rattle.packet_walk.specs.declared.walk.WalkEnd.TheVariants as end
@@ -107,7 +107,7 @@ module _ (service : ℕ) (before now : Supplied) (start next : Received) where
   -- the output is written whole, or failed
   by_closes : (found : Bool) (run answer : ToolStatus TakeFault) (out : Received) (buffer : Buffered)
       (packets : List (List ℕ)) (rest : List ℕ)
-      (told : IsTold (Takes service found) (no_pid service) before now start out buffer packets rest)
+      (told : IsToldFrom (Takes service found) (no_pid service) before now start out buffer packets rest)
       → (Appends start.written next.written told.text → IsCauseOf run) → Closes out next buffer run answer
       → IsCauseOf answer
   by_closes found run answer out buffer packets rest told caused closes = by (closes start told.text told.put_out)

@@ -1,11 +1,9 @@
 pub mod CloseLaws
-pub mod FollowingLaws
 pub mod FrameLaws
 pub mod JoinLaws
 pub mod JoinSteps
 pub mod LaneLaws
 pub mod ServicesAgain
-pub mod StepLaws
 pub mod TableLaws
 pub mod TakeLaws
 pub mod TakenLaws

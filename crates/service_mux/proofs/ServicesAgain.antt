@@ -1,5 +1,5 @@
 -- A multiplex gives the packets of its services again.
-use Rattle.std.proofs.Common.{◌≡◌, ◌≢◌, ◌∙◌, ◌≤◌, ◌<◌, ℕ, zero, suc, ◌+◌, ◌-◌, ◌*◌, ◌/◌, ◌%◌, ◌^◌, max, Bool, true, false, not, cond, ◌&&◌, ◌||◌, List, [], ◌∷◌, ◌++◌, length, length-append, take, drop, replicate, Option, Some, None, All, refl, sym, ap, ap₂, subst, append-nil, append_assoc, slice_get, arith, nat_eq, nat_lt}
+use Rattle.std.proofs.Common.{◌≡◌, ◌≢◌, ◌∙◌, ◌≤◌, ◌<◌, ℕ, zero, suc, ◌+◌, ◌-◌, ◌*◌, ◌/◌, ◌%◌, ◌^◌, max, Bool, true, false, not, cond, ◌&&◌, ◌||◌, List, [], ◌∷◌, ◌++◌, length, length-append, get_or, take, drop, replicate, Option, Some, None, All, refl, sym, ap, ap₂, subst, append-nil, append_assoc, slice_get, arith, nat_eq, nat_lt}
 use Rattle.std.specs.Prelude.{◌==◌, filter, find, option_map, option_and_then}
 use Rattle.std.specs.Bool.{if◌then◌else◌}
 use Rattle.std.specs.Option.{option_or}
@@ -21,14 +21,36 @@ use Rattle.psi_tables.specs.Services.{named_by, pid_in, pid_listed, pmt_in, pmt_
 use Rattle.psi_tables.specs.Writing.{pat_entry, written_pat, written_pmt}
 use Rattle.psi_tables.specs.declared.service.Service.{Service}
 use Rattle.psi_tables.specs.Loops.{thirteen_at}
-use Rattle.psi_tables.proofs.LoopLaws.{pid_listed_next}
 use Rattle.psi_tables.proofs.ReadAgain.{pat_again, pmt_again, whole_pat, whole_pmt}
 use Rattle.service_mux.specs.Multiplex.{frame_of, frames_of, if_of, mux_of, service_packet, table_packet, table_payload, turn_packet}
 use Rattle.service_mux.specs.MuxWords.{AreServices}
-use Rattle.service_mux.specs.Sections.{by_counter, counts, ended_with, following, grown, hand_behind, is_broken, last_counter, none_ended, sections_at, started, with_section}
-use Rattle.service_mux.specs.Taken.{Named, by_sections, first_behind, first_in, of_pid, subtitles_of, taken_by, taken_of}
+use Rattle.section_reader.specs.Sections.{by_counter, counts, ended_with, following, grown, hand_behind, is_broken, last_counter, none_ended, sections_at, started, with_section}
+use Rattle.section_reader.specs.First.{by_sections, first_behind, first_in}
+use Rattle.service_mux.specs.Taken.{Named, of_pid, subtitles_of, taken_by, taken_of}
 use Rattle.service_mux.specs.declared.mux_words.ServicePair.{ServicePair}
 use Rattle.service_mux.proofs.TableLaws.{payload_length, written_table}
+
+-- what entries list for a service, by the first of them
+listed_first : (service a b c d : ℕ) (rest : List ℕ)
+    → pid_listed service (a ∷ b ∷ c ∷ d ∷ rest)
+    ≡ (if a * 256 + b == service then Some ((c * 256 + d) % 2 ^ 13) else pid_listed service rest)
+listed_first service a b c d rest = by_test (a * 256 + b == service) refl
+  where
+    by_test : (found : Bool) → (a * 256 + b == service) ≡ found
+        → pid_listed service (a ∷ b ∷ c ∷ d ∷ rest)
+        ≡ (if a * 256 + b == service then Some ((c * 256 + d) % 2 ^ 13) else pid_listed service rest)
+    by_test true e = rw e refl
+    by_test false e = rw e refl
+
+pid_listed_next : (service : ℕ) (bytes : List ℕ) → 4 ≤ length bytes
+    → pid_listed service bytes
+    ≡ (if get_or bytes 0 0 * 256 + get_or bytes 1 0 == service then Some (thirteen_at 2 bytes)
+    else pid_listed service (drop 4 bytes))
+pid_listed_next service (a ∷ b ∷ c ∷ d ∷ bytes) long = listed_first service a b c d bytes
+pid_listed_next service [] long = absurd (omega arith)
+pid_listed_next service (a ∷ []) long = absurd (omega arith)
+pid_listed_next service (a ∷ b ∷ []) long = absurd (omega arith)
+pid_listed_next service (a ∷ b ∷ c ∷ []) long = absurd (omega arith)
 
 -- ---- the packet of a table is read as its section
 
@@ -131,7 +153,7 @@ one_section pid count byte bytes before small fits table whole none_last none_ha
     let no_pointer : nat_lt (length rest) 0 ≡ false = le-ltb _ _ (omega arith) in
     ap₂ (λ (last : Option ℕ) (hand : Option (List ℕ)). (ended_with pid last hand packet).sections) none_last
     none_hand
-    ∙ ap (λ (e : Rattle.service_mux.specs.Sections.Ended). e.sections)
+    ∙ ap (λ (e : Rattle.section_reader.specs.Sections.Ended). e.sections)
     (ends_started pid packet (table_payload section) reads)
     ∙ ap (λ (b : Bool). (if b then none_ended else record {
       sections = (grown None (take 0 rest)).sections ++ (following (length rest) (drop 0 rest)).sections;
@@ -152,7 +174,7 @@ module _ (pid : ℕ) (packet : List ℕ) (other : nat_eq (pid_of packet) pid ≡
 
   other_sections : sections_at pid before packet ≡ []
   other_sections =
-      ap (λ (e : Rattle.service_mux.specs.Sections.Ended). e.sections)
+      ap (λ (e : Rattle.section_reader.specs.Sections.Ended). e.sections)
       (other_ends (last_counter pid before) (hand_behind pid before))
 
   other_last : last_counter pid (packet ∷ before) ≡ last_counter pid before
@@ -163,7 +185,7 @@ module _ (pid : ℕ) (packet : List ℕ) (other : nat_eq (pid_of packet) pid ≡
   other_hand : hand_behind pid (packet ∷ before) ≡ hand_behind pid before
   unfolding hand_behind
   other_hand =
-      ap (λ (e : Rattle.service_mux.specs.Sections.Ended). e.hand)
+      ap (λ (e : Rattle.section_reader.specs.Sections.Ended). e.hand)
       (other_ends (last_counter pid before) (hand_behind pid before))
 
 nothing_in_hand : (pid : ℕ) → hand_behind pid [] ≡ None

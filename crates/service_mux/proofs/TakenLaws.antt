@@ -6,56 +6,10 @@ use Rattle.std.proofs.lemmas.List.Elements.{filter-append}
 use Rattle.std.proofs.lemmas.List.Folds.{concat-append}
 use Rattle.sub_base.specs.Lists.{first_given}
 use Rattle.psi_tables.specs.Services.{pmt_in, pid_in}
-use Rattle.service_mux.specs.Sections.{sections_at}
-use Rattle.service_mux.specs.Taken.{Named, by_sections, first_behind, first_in, of_pid, subtitles_of}
-use Rattle.service_mux.specs.Private.Taking.{IsBehindMap, latest_first}
-
--- ---- one packet more
-
--- the packet behind those before it
-pub latest_more : (before packets : List (List ℕ)) (packet : List ℕ)
-    → latest_first before (packets ++ packet ∷ []) ≡ packet ∷ latest_first before packets
-latest_more before [] packet = refl
-latest_more before (first ∷ packets) packet = latest_more (first ∷ before) packets packet
-
-none_cases : (o : Option ℕ) (rest : List (List ℕ)) (later : Option Named) → by_sections o rest later ≡ None
-    → (o ≡ None) × (later ≡ None)
-none_cases None rest later none = (refl, none)
-none_cases (Some pid) rest later none = absurd cc
-
-some_cases : (o : Option ℕ) (rest : List (List ℕ)) (packet : List ℕ) (later more : Option Named) (found : Named)
-    → by_sections o rest later ≡ Some found
-    → (later ≡ Some found → more ≡ Some (found.0, found.1 ++ packet ∷ []))
-    → by_sections o (rest ++ packet ∷ []) more ≡ Some (found.0, found.1 ++ packet ∷ [])
-some_cases None rest packet later more found some goes = goes some
-some_cases (Some pid) rest packet later more found some goes =
-    ap (λ (o : Option Named). option_map (λ (n : Named). (n.0, n.1 ++ packet ∷ [])) o) some
-
-module _ (names : List ℕ → Option ℕ) (pid : ℕ) where
-  -- nothing is named before it
-  pub named_at : (before packets : List (List ℕ)) (packet : List ℕ)
-      → first_behind names pid before packets ≡ None
-      → first_behind names pid before (packets ++ packet ∷ [])
-      ≡ by_sections (first_given names (sections_at pid (latest_first before packets) packet)) [] None
-  named_at before [] packet none = refl
-  named_at before (first ∷ packets) packet none =
-      let cases =
-      none_cases (first_given names (sections_at pid before first)) packets
-      (first_behind names pid (first ∷ before) packets) none in
-      ap (λ (o : Option ℕ). by_sections o (packets ++ packet ∷ [])
-      (first_behind names pid (first ∷ before) (packets ++ packet ∷ []))) cases.0
-      ∙ named_at (first ∷ before) packets packet cases.1
-
-  -- something is
-  pub named_before : (before packets : List (List ℕ)) (packet : List ℕ) (found : Named)
-      → first_behind names pid before packets ≡ Some found
-      → first_behind names pid before (packets ++ packet ∷ []) ≡ Some (found.0, found.1 ++ packet ∷ [])
-  named_before before [] packet found some = absurd cc
-  named_before before (first ∷ packets) packet found some =
-      some_cases (first_given names (sections_at pid before first)) packets packet
-      (first_behind names pid (first ∷ before) packets)
-      (first_behind names pid (first ∷ before) (packets ++ packet ∷ [])) found some
-      (named_before (first ∷ before) packets packet found)
+use Rattle.section_reader.specs.First.{first_in}
+use Rattle.section_reader.proofs.FirstLaws.{named_before}
+use Rattle.service_mux.specs.Taken.{Named, of_pid, subtitles_of}
+use Rattle.service_mux.specs.Private.Taking.{IsBehindMap}
 
 -- ---- the service
 

@@ -8,20 +8,24 @@ use Rattle.command_text.specs.Putting.{Buffered, PutsOut}
 use Rattle.command_text.proofs.PutLaws.{PutsOut-nothing}
 use Rattle.packet_walk.specs.Told.{TellsOne}
 use Rattle.psi_tables.specs.Services.{pmt_in, pid_in}
-use Rattle.service_mux.specs.Reading.{ReadsOn, IsReadingOf, TableReading, named_in}
-use Rattle.service_mux.specs.Sections.{sections_at}
-use Rattle.service_mux.specs.Taken.{Named, by_sections, first_in, of_pid, subtitles_of, taken_by}
-use Rattle.service_mux.specs.Private.Taking.{IsBeforeTable, IsBehindMap, IsBehindTable, IsTaking, StandsIn, Takes, TakesIn, has_found, latest_first}
+use Rattle.section_reader.specs.First.{by_sections, first_in}
+use Rattle.section_reader.specs.Reading.{IsReadingOf, latest_first}
+use Rattle.section_reader.specs.Sections.{sections_at}
+use Rattle.section_reader.proofs.FirstLaws.{named_at, named_before}
+use Rattle.section_reader.proofs.ReadLaws.{latest_more}
+use Rattle.service_mux.specs.Reading.{ReadsOn, TableReading, named_in}
+use Rattle.service_mux.specs.Taken.{Named, of_pid, subtitles_of, taken_by}
+use Rattle.service_mux.specs.Private.Taking.{IsBeforeTable, IsBehindMap, IsBehindTable, IsTaking, StandsIn, Takes, TakesIn, has_found}
 use Rattle.service_mux.specs.declared.sought.Sought.TheVariants as sought
 use Rattle.service_mux.specs.declared.taker.Phase.{Phase}
 use Rattle.service_mux.specs.declared.taker.Phase.TheVariants as phase
 use Rattle.service_mux.specs.declared.taker.Taker.{Taker}
-use Rattle.service_mux.proofs.TakenLaws.{latest_more, named_at, named_before, no_map, no_table, subtitles_named, taken_more}
+use Rattle.service_mux.proofs.TakenLaws.{no_map, no_table, subtitles_named, taken_more}
 
 -- what a reader answers at a packet, whatever was fed before
 abbrev pub Answers : TableReading → List ℕ → Option ℕ → Type 0
-Answers reader packet answer = (before : List (List ℕ)) → IsReadingOf reader before
-    → answer ≡ first_given (named_in reader.sought) (sections_at reader.pid before packet)
+Answers reader packet answer = (before : List (List ℕ)) → IsReadingOf reader.sections before
+    → answer ≡ first_given (named_in reader.sought) (sections_at reader.sections.pid before packet)
 
 -- ---- before a PAT has listed the service
 
@@ -34,8 +38,8 @@ at_table service reader packet answer packets bytes answers is =
     (sym (rw (is.sought, is.pid) at (answers (latest_first [] packets) is.stands)))
 
 pub table_found : (service pid : ℕ) (reader restarted : TableReading) (packet : List ℕ)
-    → Answers reader packet (Some pid) → restarted.pid ≡ pid → restarted.sought ≡ sought.Subtitles service
-    → IsReadingOf restarted []
+    → Answers reader packet (Some pid) → restarted.sections.pid ≡ pid → restarted.sought ≡ sought.Subtitles service
+    → IsReadingOf restarted.sections []
     → (packets : List (List ℕ)) (bytes : List ℕ) → IsBeforeTable service reader packets bytes
     → IsBehindTable service restarted (packets ++ packet ∷ []) bytes
 table_found service pid reader restarted packet answers pid_is sought_is stands packets bytes is = record {
@@ -54,11 +58,11 @@ pub table_missed : (service : ℕ) (reader fed : TableReading) (packet : List �
     → (packets : List (List ℕ)) (bytes : List ℕ) → IsBeforeTable service reader packets bytes
     → IsBeforeTable service fed (packets ++ packet ∷ []) bytes
 table_missed service reader fed packet answers goes packets bytes is = record {
-  pid = goes.pid ∙ is.pid;
+  pid = goes.sections.pid ∙ is.pid;
   sought = goes.sought ∙ is.sought;
   stands =
-      subst (λ (l : List (List ℕ)). IsReadingOf fed l) (sym (latest_more [] packets packet))
-      (goes.stands (latest_first [] packets) is.stands);
+      subst (λ (l : List (List ℕ)). IsReadingOf fed.sections l) (sym (latest_more [] packets packet))
+      (goes.sections.stands (latest_first [] packets) is.stands);
   none = at_table service reader packet None packets bytes answers is;
   nothing = is.nothing;
 }
@@ -67,9 +71,9 @@ table_missed service reader fed packet answers goes packets bytes is = record {
 
 at_map : (service : ℕ) (reader : TableReading) (packet : List ℕ) (answer : Option ℕ) (packets : List (List ℕ))
     (bytes : List ℕ) → Answers reader packet answer → (is : IsBehindTable service reader packets bytes)
-    → first_in (pid_in service) reader.pid (is.behind ++ packet ∷ []) ≡ by_sections answer [] None
+    → first_in (pid_in service) reader.sections.pid (is.behind ++ packet ∷ []) ≡ by_sections answer [] None
 at_map service reader packet answer packets bytes answers is =
-    named_at (pid_in service) reader.pid [] is.behind packet is.none
+    named_at (pid_in service) reader.sections.pid [] is.behind packet is.none
     ∙ ap (λ (o : Option ℕ). by_sections o [] None)
     (sym (rw is.sought at (answers (latest_first [] is.behind) is.stands)))
 
@@ -78,8 +82,8 @@ pub map_found : (service pid : ℕ) (reader : TableReading) (packet : List ℕ) 
     → IsBehindMap service pid (packets ++ packet ∷ []) bytes
 map_found service pid reader packet answers packets bytes is = record {
   behind = [];
-  found = subtitles_named service (packets ++ packet ∷ []) (reader.pid, is.behind ++ packet ∷ []) (pid, [])
-      (named_before (pmt_in service) 0 [] packets packet (reader.pid, is.behind) is.table)
+  found = subtitles_named service (packets ++ packet ∷ []) (reader.sections.pid, is.behind ++ packet ∷ []) (pid, [])
+      (named_before (pmt_in service) 0 [] packets packet (reader.sections.pid, is.behind) is.table)
       (at_map service reader packet (Some pid) packets bytes answers is);
   taken = is.nothing;
 }
@@ -91,14 +95,14 @@ pub map_missed : (service : ℕ) (reader fed : TableReading) (packet : List ℕ)
 map_missed service reader fed packet answers goes packets bytes is = record {
   behind = is.behind ++ packet ∷ [];
   table =
-      named_before (pmt_in service) 0 [] packets packet (reader.pid, is.behind) is.table
-      ∙ ap (λ (p : ℕ). Some (p, is.behind ++ packet ∷ [])) (sym goes.pid);
+      named_before (pmt_in service) 0 [] packets packet (reader.sections.pid, is.behind) is.table
+      ∙ ap (λ (p : ℕ). Some (p, is.behind ++ packet ∷ [])) (sym goes.sections.pid);
   sought = goes.sought ∙ is.sought;
   stands =
-      subst (λ (l : List (List ℕ)). IsReadingOf fed l) (sym (latest_more [] is.behind packet))
-      (goes.stands (latest_first [] is.behind) is.stands);
+      subst (λ (l : List (List ℕ)). IsReadingOf fed.sections l) (sym (latest_more [] is.behind packet))
+      (goes.sections.stands (latest_first [] is.behind) is.stands);
   none =
-      ap (λ (p : ℕ). first_in (pid_in service) p (is.behind ++ packet ∷ [])) goes.pid
+      ap (λ (p : ℕ). first_in (pid_in service) p (is.behind ++ packet ∷ [])) goes.sections.pid
       ∙ at_map service reader packet None packets bytes answers is;
   nothing = is.nothing;
 }
@@ -153,7 +157,8 @@ in_phase : (in_hand : Phase) (service : ℕ) (reader : TableReading) (packets : 
 in_phase phase.BeforeTable service reader packets bytes is =
     missed_takes service packets bytes (no_table service packets is.none) is.nothing
 in_phase phase.BehindTable service reader packets bytes is =
-    missed_takes service packets bytes (no_map service packets (reader.pid, is.behind) is.table is.none) is.nothing
+    missed_takes service packets bytes (no_map service packets (reader.sections.pid, is.behind) is.table is.none)
+    is.nothing
 in_phase (phase.BehindMap pid) service reader packets bytes is = found_takes service pid packets bytes is
 
 -- what a taker has put out is what is taken of the packets

@@ -3,7 +3,6 @@ pub mod MuxOutcome
 pub mod MuxWords
 pub mod Private
 pub mod Reading
-pub mod Sections
 pub mod ServicesAgain
 pub mod StreamReads
 pub mod TakeOutcome

@@ -1,31 +1,12 @@
 -- The subtitles of a service, taken out of a multiplex.
 use Rattle.std.specs.Prelude.{ℕ, ◌==◌, Bool, List, [], ◌∷◌, filter, Option, Some, None, option_and_then}
-use Rattle.sub_base.specs.Lists.{first_given}
 use Rattle.stream_syntax.specs.TransportPackets.{pid_of}
 use Rattle.psi_tables.specs.Services.{pmt_in, pid_in}
-use Rattle.service_mux.specs.Sections.{sections_at}
-
--- ---- what sections name first
+use Rattle.section_reader.specs.First.{Found, first_in}
 
 -- a PID that is named, and the packets behind the one in which the section ends that names it
 abbrev pub Named : Type 0
-Named = ℕ × List (List ℕ)
-
--- the PID that a packet's sections name, or what later ones do
-abbrev pub by_sections : Option ℕ → List (List ℕ) → Option Named → Option Named
-by_sections None rest later = later
-by_sections (Some pid) rest later = Some (pid, rest)
-
--- the first PID that sections of a PID name in these packets; those before them are given the latest first
-abbrev pub first_behind : (List ℕ → Option ℕ) → ℕ → List (List ℕ) → List (List ℕ) → Option Named
-first_behind names pid before [] = None
-first_behind names pid before (packet ∷ packets) =
-    by_sections (first_given names (sections_at pid before packet)) packets
-    (first_behind names pid (packet ∷ before) packets)
-
--- the same where the stream begins with these packets
-abbrev pub first_in : (List ℕ → Option ℕ) → ℕ → List (List ℕ) → Option Named
-first_in names pid packets = first_behind names pid [] packets
+Named = Found ℕ
 
 -- ---- the service
 

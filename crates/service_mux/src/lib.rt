@@ -4,7 +4,6 @@
 #![tactic(auto)]
 
 // What packets say of the tables of a PID.
-mod kind;
 mod sought;
 mod table_reader;
 

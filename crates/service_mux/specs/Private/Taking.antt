@@ -3,17 +3,14 @@ use Rattle.std.specs.Prelude.{◌≡◌, ℕ, ◌+◌, Bool, true, false, List, 
 use Rattle.std.specs.Option.{is_none}
 use Rattle.std.specs.List.{concat}
 use Rattle.psi_tables.specs.Services.{pmt_in, pid_in}
-use Rattle.service_mux.specs.Reading.{IsReadingOf, TableReading}
-use Rattle.service_mux.specs.Taken.{first_in, of_pid, subtitles_of, taken_of}
+use Rattle.section_reader.specs.First.{first_in}
+use Rattle.section_reader.specs.Reading.{IsReadingOf, latest_first}
+use Rattle.service_mux.specs.Reading.{TableReading}
+use Rattle.service_mux.specs.Taken.{of_pid, subtitles_of, taken_of}
 use Rattle.service_mux.specs.declared.sought.Sought.TheVariants as sought
 use Rattle.service_mux.specs.declared.taker.Phase.{Phase}
 use Rattle.service_mux.specs.declared.taker.Phase.TheVariants as phase
 use Rattle.service_mux.specs.declared.taker.Taker.{Taker}
-
--- these packets behind those, the latest first
-abbrev pub latest_first : List (List ℕ) → List (List ℕ) → List (List ℕ)
-latest_first before [] = before
-latest_first before (packet ∷ packets) = latest_first (packet ∷ before) packets
 
 -- a PID that no packet has, one for each service
 abbrev pub no_pid : ℕ → ℕ
@@ -22,9 +19,9 @@ no_pid service = 8192 + service
 -- no PAT has listed the service
 pub record IsBeforeTable (service : ℕ) (reader : TableReading) (packets : List (List ℕ))
     (bytes : List ℕ) : Type 0 where
-  pub pid : reader.pid ≡ 0
+  pub pid : reader.sections.pid ≡ 0
   pub sought : reader.sought ≡ sought.Table service
-  pub stands : IsReadingOf reader (latest_first [] packets)
+  pub stands : IsReadingOf reader.sections (latest_first [] packets)
   pub none : first_in (pmt_in service) 0 packets ≡ None
   pub nothing : bytes ≡ []
 
@@ -32,10 +29,10 @@ pub record IsBeforeTable (service : ℕ) (reader : TableReading) (packets : List
 pub record IsBehindTable (service : ℕ) (reader : TableReading) (packets : List (List ℕ))
     (bytes : List ℕ) : Type 0 where
   pub behind : List (List ℕ)
-  pub table : first_in (pmt_in service) 0 packets ≡ Some (reader.pid, behind)
+  pub table : first_in (pmt_in service) 0 packets ≡ Some (reader.sections.pid, behind)
   pub sought : reader.sought ≡ sought.Subtitles service
-  pub stands : IsReadingOf reader (latest_first [] behind)
-  pub none : first_in (pid_in service) reader.pid behind ≡ None
+  pub stands : IsReadingOf reader.sections (latest_first [] behind)
+  pub none : first_in (pid_in service) reader.sections.pid behind ≡ None
   pub nothing : bytes ≡ []
 
 -- a PMT has named their PID, and the packets behind it were taken

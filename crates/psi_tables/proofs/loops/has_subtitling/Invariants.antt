@@ -5,9 +5,9 @@ use Rattle.psi_tables.specs.Services.{is_subtitling}
 use Rattle.psi_tables.proofs.loops.has_subtitling.Given as goal
 
 -- none has been passed
-abbrev pub invariant-loop-tag : goal.invariant-loop-tag
-invariant-loop-tag l =
+abbrev pub invariant-loop-descriptor : goal.invariant-loop-descriptor
+invariant-loop-descriptor l =
     list_any is_subtitling (descriptors_of l.rest) ≡ list_any is_subtitling (descriptors_of l.descriptors)
 
-abbrev pub decreases-loop-tag : goal.decreases-loop-tag
-decreases-loop-tag l = length l.rest
+abbrev pub decreases-loop-descriptor : goal.decreases-loop-descriptor
+decreases-loop-descriptor l = length l.rest

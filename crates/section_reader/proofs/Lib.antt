@@ -1,0 +1,4 @@
+pub mod FirstLaws
+pub mod FollowingLaws
+pub mod ReadLaws
+pub mod StepLaws

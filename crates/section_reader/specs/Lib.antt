@@ -1,0 +1,4 @@
+pub mod First
+pub mod Private
+pub mod Reading
+pub mod Sections

@@ -1,0 +1,5 @@
+use Rattle.service_tables.proofs.ListLaws.{AreFed}
+use Rattle.service_tables.proofs.programmes.feed_all.Given as goal
+
+abbrev pub invariant-loop-programme : goal.invariant-loop-programme
+invariant-loop-programme l = AreFed l.fn.programmes l.programmes l.programme-index l.packet

@@ -1,0 +1,21 @@
+use Rattle.std.proofs.Common.{◌≡◌, ◌∙◌, ◌++◌, ◌∷◌, [], List, ap, drop, length, subst, sym, take, arith}
+use Rattle.std.proofs.Math.Seq.{take-append_seam}
+use Rattle.service_tables.specs.Reading.{HaveReadMaps, ProgrammeReading}
+use Rattle.service_tables.proofs.programmes.feed_each.Goals as goal
+
+pub returns-clause-read : goal.returns-clause-read
+returns-clause-read c = λ packets read.
+    let all : c.args.programmes.now.len ≡ length c.feed_all.new.programmes =
+    omega (
+      arith,
+      c.feed_all.auto.programmes,
+      ap (λ (ps : List ProgrammeReading). length ps) c.as_mut_slice.ensures.value,
+      c.args.programmes.now.ok.0,
+    ) in
+    subst (λ (ps : List ProgrammeReading). HaveReadMaps ps (packets ++ c.args.packet.now ∷ []))
+    (sym (ap (λ n. take n (c.feed_all.new.programmes ++ drop (length c.feed_all.new.programmes)
+    c.args.programmes.now.items)) all
+    ∙ take-append_seam c.feed_all.new.programmes
+    (drop (length c.feed_all.new.programmes) c.args.programmes.now.items)))
+    (c.feed_all.ensures.read packets
+    (subst (λ (ps : List ProgrammeReading). HaveReadMaps ps packets) (sym c.as_mut_slice.ensures.value) read))

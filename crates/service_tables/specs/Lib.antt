@@ -1,0 +1,4 @@
+pub mod Clock
+pub mod First
+pub mod Reading
+pub mod Tables
