@@ -4,7 +4,7 @@ use Rattle.stream_syntax.specs.declared.pes.PesFault.{PesFault}
 use Rattle.stream_syntax.specs.declared.segment_fault.SegmentFault.{SegmentFault}
 use Rattle.stream_syntax.specs.declared.transport.Event.{Event}
 use Rattle.stream_syntax.specs.declared.transport.Event.TheVariants as event
-use Rattle.dvbsub_cmd.specs.KindNames.{pes_fault_name, segment_kind_name}
+use Rattle.fault_names.specs.FaultNames.{pes_fault_name, segment_kind_name}
 use Rattle.command_text.specs.Lines.{line_end, two_hex, then_number}
 
 -- the line of a loss at the packet of that place, and no line at another event

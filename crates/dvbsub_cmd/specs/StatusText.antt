@@ -13,7 +13,8 @@ use Rattle.schedule.specs.declared.fault.ScheduleFault.{ScheduleFault}
 use Rattle.schedule.specs.declared.fault.ScheduleFault.TheVariants as schedule
 use Rattle.stream_syntax.specs.declared.transport.PacketFault.{PacketFault}
 use Rattle.command_text.specs.Lines.{then_number}
-use Rattle.dvbsub_cmd.specs.KindNames.{font_kind_name, packet_fault_name}
+use Rattle.dvbsub_cmd.specs.KindNames.{font_kind_name}
+use Rattle.fault_names.specs.FaultNames.{packet_fault_name}
 use Rattle.dvbsub_cmd.specs.declared.status.Status.{Status}
 use Rattle.dvbsub_cmd.specs.declared.status.Status.TheVariants as status
 use Rattle.sub_base.specs.Which.{which_name}

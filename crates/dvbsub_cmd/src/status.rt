@@ -3,10 +3,11 @@ ghost use Rattle.command_text.specs.Lines.{then_number};
 ghost use Rattle.sub_base.specs.Which.{which_name};
 ghost use Rattle.dvbsub_cmd.specs.StatusText.{kind_text, done_text as done_text_of, font_text as font_text_of, plan_text as plan_text_of, schedule_text as schedule_text_of, script_text as script_text_of, stream_text as stream_text_of, status_text, status_line as line_of_status, code_of};
 
-use crate::kind_names::{font_kind_name, packet_fault_name};
+use crate::kind_names::font_kind_name;
 use bitmap_font::FontFault;
 use command_text::Line;
 use cue_list::{ScriptFault, ScriptKind};
+use fault_names::packet_fault_name;
 use page_epoch::PlanFault;
 use schedule::ScheduleFault;
 use stream_syntax::PacketFault;

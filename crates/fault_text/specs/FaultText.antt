@@ -20,7 +20,7 @@ use Rattle.stream_syntax.specs.declared.page.PageEntry.{PageEntry}
 use Rattle.sub_base.specs.Lists.{all_of}
 use Rattle.sub_base.specs.declared.load.SetLoad.{SetLoad}
 use Rattle.sub_base.specs.declared.profile.Profile.{Profile}
-use Rattle.fault_text.specs.FaultNames.{set_fault_text}
+use Rattle.fault_text.specs.SetFaults.{set_fault_text}
 use Rattle.fault_text.specs.declared.tally.Tally.{Tally}
 
 -- ---- how many

@@ -1,3 +1,3 @@
-pub mod FaultNames
+pub mod SetFaults
 pub mod FaultText
 pub mod Faulting

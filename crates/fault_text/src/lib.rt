@@ -4,10 +4,10 @@
 #![tactic(auto)]
 
 mod changes;
-mod fault_names;
 mod faults;
 mod kept;
 mod lines;
+mod set_faults;
 mod sets;
 mod taking;
 mod tally;

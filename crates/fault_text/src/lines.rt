@@ -6,7 +6,7 @@ ghost use Rattle.fault_text.specs.FaultText.{end_text, outside_line as outside_l
 ghost use Rattle.fault_text.specs.FaultText.{set_front as set_front_of};
 ghost use Rattle.set_definitions.specs.Definitions.{same_version_line as same_version_line_of};
 
-use crate::fault_names::push_set_fault;
+use crate::set_faults::push_set_fault;
 use crate::tally::Tally;
 use command_text::Line;
 use decoder_model::SetEnd;

@@ -2,12 +2,12 @@
 
 ghost use Rattle.std.specs.Prelude.{◌≡◌, ◌+◌, ◌≤◌, ◌++◌, length};
 ghost use Rattle.command_text.specs.Lines.{then_number};
-ghost use Rattle.fault_text.specs.FaultNames.{code_kind_name as name_of_code_kind, segment_kind_name as name_of_segment_kind};
-ghost use Rattle.fault_text.specs.FaultNames.{place_in_block as place_in, segment_fault_text, set_fault_text};
+ghost use Rattle.fault_text.specs.SetFaults.{place_in_block as place_in, segment_fault_text, set_fault_text};
 
 use command_text::Line;
 use decoder_model::SetFault;
-use stream_syntax::{CodeKind, SegmentFault, SegmentKind};
+use fault_names::segment_kind_name;
+use stream_syntax::{SegmentFault, SegmentKind};
 
 /// Puts the name of why a set is broken, with its numbers, at the end of a line.
 pub(crate) fn push_set_fault(line: &mut Line, fault: SetFault)
@@ -81,39 +81,5 @@ fn push_place_in_block(line: &mut Line, kind: SegmentKind)
 {
     if let SegmentKind::Code(fault) = kind {
         line.push_then_number(u64::from(fault.place));
-    }
-}
-
-/// The name of what is wrong with a segment.
-fn segment_kind_name(kind: SegmentKind) -> &'static str
-    ensures name { result.now ≡ name_of_segment_kind kind }
-    ensures short { length result.now ≤ 15 }
-{
-    match kind {
-        SegmentKind::NoSync => "NoSync",
-        SegmentKind::Cut => "Cut",
-        SegmentKind::BadLength => "BadLength",
-        SegmentKind::ReservedState => "ReservedState",
-        SegmentKind::BadDepth => "BadDepth",
-        SegmentKind::CharacterObject => "CharacterObject",
-        SegmentKind::HeldObject => "HeldObject",
-        SegmentKind::Progressive => "Progressive",
-        SegmentKind::ReservedMethod => "ReservedMethod",
-        SegmentKind::Code(fault) => code_kind_name(fault.kind),
-        SegmentKind::BadWindow => "BadWindow",
-        SegmentKind::ZeroSize => "ZeroSize",
-    }
-}
-
-/// The name of why a sub-block of a pixel data block is not in the grammar.
-fn code_kind_name(kind: CodeKind) -> &'static str
-    ensures name { result.now ≡ name_of_code_kind kind }
-    ensures short { length result.now ≤ 15 }
-{
-    match kind {
-        CodeKind::UnknownType => "UnknownType",
-        CodeKind::TooDeep => "TooDeep",
-        CodeKind::CutString => "CutString",
-        CodeKind::CutTable => "CutTable",
     }
 }

@@ -1,8 +1,8 @@
 use Rattle.std.proofs.Common.{◌∙◌, ℕ, ◌++◌, sym, ap}
 use Rattle.std.specs.Prelude.{codes}
 use Rattle.command_text.specs.Lines.{then_number}
-use Rattle.fault_text.specs.FaultNames.{set_fault_text}
-use Rattle.fault_text.proofs.fault_names.push_set_fault.Goals as goal
+use Rattle.fault_text.specs.SetFaults.{set_fault_text}
+use Rattle.fault_text.proofs.set_faults.push_set_fault.Goals as goal
 
 pub returns-in-DisplayTooLarge-clause-line : goal.returns-in-DisplayTooLarge-clause-line
 returns-in-DisplayTooLarge-clause-line c =

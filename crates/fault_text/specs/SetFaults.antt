@@ -3,33 +3,10 @@ use Rattle.std.specs.Prelude.{ℕ, List, [], ◌++◌, codes}
 use Rattle.command_text.specs.Lines.{then_number, two_hex}
 use Rattle.decoder_model.specs.declared.set_fault.SetFault.{SetFault}
 use Rattle.decoder_model.specs.declared.set_fault.SetFault.TheVariants as set
-use Rattle.stream_syntax.specs.declared.code_fault.CodeKind.{CodeKind}
-use Rattle.stream_syntax.specs.declared.code_fault.CodeKind.TheVariants as code
+use Rattle.fault_names.specs.FaultNames.{segment_kind_name}
 use Rattle.stream_syntax.specs.declared.segment_fault.SegmentFault.{SegmentFault}
 use Rattle.stream_syntax.specs.declared.segment_fault.SegmentKind.{SegmentKind}
 use Rattle.stream_syntax.specs.declared.segment_fault.SegmentKind.TheVariants as segment
-
--- why a sub-block of a pixel data block is not in the grammar
-abbrev pub code_kind_name : CodeKind → List ℕ
-code_kind_name code.UnknownType = codes "UnknownType"
-code_kind_name code.TooDeep = codes "TooDeep"
-code_kind_name code.CutString = codes "CutString"
-code_kind_name code.CutTable = codes "CutTable"
-
--- what is wrong with a segment: for a block of pixel data, what is wrong with that
-abbrev pub segment_kind_name : SegmentKind → List ℕ
-segment_kind_name segment.NoSync = codes "NoSync"
-segment_kind_name segment.Cut = codes "Cut"
-segment_kind_name segment.BadLength = codes "BadLength"
-segment_kind_name segment.ReservedState = codes "ReservedState"
-segment_kind_name segment.BadDepth = codes "BadDepth"
-segment_kind_name segment.CharacterObject = codes "CharacterObject"
-segment_kind_name segment.HeldObject = codes "HeldObject"
-segment_kind_name segment.Progressive = codes "Progressive"
-segment_kind_name segment.ReservedMethod = codes "ReservedMethod"
-segment_kind_name (segment.Code fault) = code_kind_name fault.kind
-segment_kind_name segment.BadWindow = codes "BadWindow"
-segment_kind_name segment.ZeroSize = codes "ZeroSize"
 
 -- the place in the block, where a block of pixel data is wrong
 abbrev pub place_in_block : SegmentKind → List ℕ
