@@ -14,6 +14,14 @@ mod told_faults;
 #[cfg(test)]
 mod told_pids;
 
+// The services that its tables list.
+#[cfg(test)]
+mod told_services;
+
 // The levels of the coded data buffer, by the stream's own clock.
 #[cfg(test)]
 mod told_levels;
+
+// The same by the clock of a programme.
+#[cfg(test)]
+mod told_by_clock;

@@ -192,6 +192,7 @@ fn words_that_are_refused(rt: HostRuntime) -> Result<(), Fail> {
         "levels sd 256 1 999 stream.ts levels.txt",
         "levels sd 256 1 1000000001 stream.ts levels.txt",
         "levels sd 256 1 01504000 stream.ts levels.txt",
+        "levels sd 256 1 PCR stream.ts levels.txt",
         "levels sd 31 1 1504000 stream.ts levels.txt",
         "levels sd 256 0 1504000 stream.ts levels.txt",
         "levels ld 256 1 1504000 stream.ts levels.txt",

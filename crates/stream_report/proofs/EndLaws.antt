@@ -11,7 +11,7 @@ use Rattle.sub_base.specs.ToolOutcome.{IsToolCause, TellsTool, untold_tool}
 use Rattle.sub_base.specs.declared.status.ToolStatus.{ToolStatus}
 use Rattle.sub_base.specs.declared.status.ToolStatus.TheVariants as tool
 use Rattle.sub_base.specs.declared.status.Which.TheVariants as which
-use Rattle.stream_report.specs.ReportOutcome.{HasReportedRead, report_causes, report_status, seen_of_stream}
+use Rattle.stream_report.specs.ReportOutcome.{HasReportedLater, HasReportedRead, IsLaterEnd, report_causes, report_status, seen_of_stream}
 use Rattle.stream_report.specs.declared.report_fault.ReportFault.{ReportFault}
 
 whole_prefix : (old new : Option (List ℕ)) (bytes : List ℕ) → Appends old new bytes → AppendsPrefix old new bytes
@@ -51,6 +51,35 @@ module _ (Told : Telling) (pid : ℕ) (before now : Supplied) (start next : Rece
   report_read told_end.TooLong is = tt
   report_read told_end.Unwritten is = tt
   report_read told_end.Memory is = is
+
+  -- the same where memory is taken in the middle of the stream
+  pub later_cause : (end : ToldEnd) → IsLaterEnd Told pid before now start next end
+      → IsToolCause (report_causes Told pid (seen_of_stream before start) (seen_of_stream now next))
+      (seen_of_stream before start) (seen_of_stream now next) (report_status end)
+  later_cause (told_end.Done cut) is = report_cause (told_end.Done cut) is
+  later_cause (told_end.Refused refused) is = report_cause (told_end.Refused refused) is
+  later_cause told_end.Unread is = report_cause told_end.Unread is
+  later_cause told_end.TooLong is = report_cause told_end.TooLong is
+  later_cause told_end.Unwritten is = report_cause told_end.Unwritten is
+  later_cause told_end.Memory is = is
+
+  pub later_read : (end : ToldEnd) → IsLaterEnd Told pid before now start next end
+      → HasReportedLater Told pid (seen_of_stream before start) (seen_of_stream now next) (report_status end)
+  later_read (told_end.Done cut) is = tt
+  later_read (told_end.Refused refused) is = tt
+  later_read told_end.Unread is = is.1
+  later_read told_end.TooLong is = tt
+  later_read told_end.Unwritten is = tt
+  later_read told_end.Memory is = is
+
+  pub later_end : (end : ToldEnd) → IsToldEnd Told pid before now start next end
+      → IsLaterEnd Told pid before now start next end
+  later_end (told_end.Done cut) is = is
+  later_end (told_end.Refused refused) is = is
+  later_end told_end.Unread is = is
+  later_end told_end.TooLong is = is
+  later_end told_end.Unwritten is = is
+  later_end told_end.Memory is = inl is.1
 
 -- ---- the answer of the tool
 

@@ -1,4 +1,6 @@
+pub mod ClockEndLaws
 pub mod EndLaws
+pub mod FrontLaws
 pub mod LevelLaws
 pub mod PastLaws
 pub mod PictureLaws

@@ -7,15 +7,15 @@ use Rattle.packet_walk.proofs.EndLaws.{end_told}
 use Rattle.packet_walk.specs.Closing.{FinishesTold}
 use Rattle.packet_walk.specs.Told.{HasTold}
 use Rattle.packet_walk.specs.ToldEnds.{IsToldEnd, Telling}
-use Rattle.packet_walk.specs.Walking.{IsEnd, IsTold}
+use Rattle.packet_walk.specs.Walking.{IsEnd, IsToldFrom}
 use Rattle.packet_walk.specs.declared.told_end.ToldEnd.{ToldEnd}
 use Rattle.packet_walk.specs.declared.told_end.ToldEnd.TheVariants as told_end
 use Rattle.packet_walk.specs.declared.walk.WalkEnd.{WalkEnd}
 use Rattle.packet_walk.specs.declared.walk.WalkEnd.TheVariants as end
-use Rattle.pid_text.proofs.PidsLaws.{pids_told}
-use Rattle.pid_text.specs.PidText.{IsPidsText, NO_PID}
-use Rattle.pid_text.specs.Private.Telling.{slots_text}
-use Rattle.pid_text.specs.Watched.{HasWatched, PidsWatched}
+use Rattle.pid_text.specs.PidText.{NO_PID}
+use Rattle.service_text.proofs.TellLaws.{text_of_told}
+use Rattle.service_text.specs.Telling.{HasTakenStream, IsStreamText, is_wanting}
+use Rattle.service_text.specs.declared.teller.PidTeller.{PidTeller}
 use Rattle.sub_base.specs.Endpoints.{Received, Supplied, WroteNothing}
 use Rattle.sub_base.specs.Seen.{Seen}
 use Rattle.sub_base.specs.ToolOutcome.{IsToolCause, TellsTool}
@@ -41,7 +41,7 @@ take_none : (n : ℕ) → take n (let none : List ℕ = [] in none) ≡ []
 take_none zero = refl
 take_none (suc n) = refl
 
-nothing_put : (start now : Received) (buffer : Buffered) (text : List ℕ) → text ≡ []
+pub nothing_put : (start now : Received) (buffer : Buffered) (text : List ℕ) → text ≡ []
     → IsPutOut start now buffer text → WroteNothing start now
 nothing_put start now buffer text nothing put = by_failed buffer.failed refl
   where
@@ -56,18 +56,18 @@ nothing_put start now buffer text nothing put = by_failed buffer.failed refl
         (subst (Appends start.written now.written) (no_front sent.written buffer.waits (sent.whole ∙ nothing))
         sent.appended)
 
-pub nothing_written : (pids : PidsWatched) (before now : Supplied) (start out : Received) (buffer : Buffered)
-    (ended : WalkEnd) → IsEnd (HasWatched pids) NO_PID before now start out buffer ended → WroteNothing start out
-nothing_written pids before now start out buffer (end.Stream (stream.Whole cut)) is =
-    nothing_put start out buffer is.2.text is.2.told.nothing is.2.put_out
-nothing_written pids before now start out buffer (end.Stream stream.Unread) is =
-    nothing_put start out buffer is.2.text is.2.told.nothing is.2.put_out
-nothing_written pids before now start out buffer (end.Stream stream.TooLong) is =
-    nothing_put start out buffer is.2.text is.2.told.nothing is.2.put_out
-nothing_written pids before now start out buffer (end.Refused refused) is =
-    nothing_put start out buffer is.3.text is.3.told.nothing is.3.put_out
-nothing_written pids before now start out buffer end.Unwritten is =
-    nothing_put start out buffer is.2.text is.2.told.nothing is.2.put_out
+pub nothing_written : (teller : PidTeller) (before now : Supplied) (start out : Received) (buffer : Buffered)
+    (ended : WalkEnd) → IsEnd (HasTakenStream teller) NO_PID before now start out buffer ended → WroteNothing start out
+nothing_written teller before now start out buffer (end.Stream (stream.Whole cut)) is =
+    nothing_put start out buffer is.2.text is.2.told.pids.nothing is.2.put_out
+nothing_written teller before now start out buffer (end.Stream stream.Unread) is =
+    nothing_put start out buffer is.2.text is.2.told.pids.nothing is.2.put_out
+nothing_written teller before now start out buffer (end.Stream stream.TooLong) is =
+    nothing_put start out buffer is.2.text is.2.told.pids.nothing is.2.put_out
+nothing_written teller before now start out buffer (end.Refused refused) is =
+    nothing_put start out buffer is.3.text is.3.told.pids.nothing is.3.put_out
+nothing_written teller before now start out buffer end.Unwritten is =
+    nothing_put start out buffer is.2.text is.2.told.pids.nothing is.2.put_out
 
 -- ---- the text is put out at the end
 
@@ -77,13 +77,13 @@ IsWritten (end.Stream ended) = Unit {0}
 IsWritten (end.Refused refused) = Unit {0}
 IsWritten end.Unwritten = ⊥
 
-module _ (pids : PidsWatched) where
+module _ (teller : PidTeller) where
   told_on : (before now : Supplied) (start out next : Received) (buffer new : Buffered) (pid : ℕ)
       (packets : List (List ℕ)) (rest : List ℕ)
-      → ((packets : List (List ℕ)) (text : List ℕ) → HasWatched pids packets text
-      → (more : List ℕ) × IsPidsText packets (text ++ more) × PutsOut out next buffer new more)
-      → IsTold (HasWatched pids) pid before now start out buffer packets rest
-      → IsTold IsPidsText pid before now start next new packets rest
+      → ((packets : List (List ℕ)) (text : List ℕ) → HasTakenStream teller packets text
+      → (more : List ℕ) × IsStreamText packets (text ++ more) × PutsOut out next buffer new more)
+      → IsToldFrom (HasTakenStream teller) pid before now start out buffer packets rest
+      → IsToldFrom IsStreamText pid before now start next new packets rest
   told_on before now start out next buffer new pid packets rest goes told =
       let more = goes packets told.text told.told in record {
         taken = told.taken;
@@ -93,9 +93,9 @@ module _ (pids : PidsWatched) where
       }
 
   pub text_put : (out next : Received) (buffer new : Buffered) (ended : WalkEnd) → IsWritten ended
-      → ((packets : List (List ℕ)) (text : List ℕ) → HasWatched pids packets text
-      → (more : List ℕ) × IsPidsText packets (text ++ more) × PutsOut out next buffer new more)
-      → FinishesTold (HasWatched pids) tells_pids out next buffer new ended
+      → ((packets : List (List ℕ)) (text : List ℕ) → HasTakenStream teller packets text
+      → (more : List ℕ) × IsStreamText packets (text ++ more) × PutsOut out next buffer new more)
+      → FinishesTold (HasTakenStream teller) tells_pids out next buffer new ended
   text_put out next buffer new (end.Stream (stream.Whole cut)) written goes pid before now start is =
       (is.0, is.1, told_on before now start out next buffer new pid is.0 is.1 goes is.2, is.3, is.4, is.5, is.6)
   text_put out next buffer new (end.Stream stream.Unread) written goes pid before now start is =
@@ -115,15 +115,15 @@ module _ (pids : PidsWatched) where
   text_put out next buffer new end.Unwritten written goes pid before now start is = absurd written
 
   -- where the output could not be written, a front of the text, which is nothing, was
-  pub text_unput : pids.is_wanting ≡ false → (out : Received) (buffer : Buffered)
-      → FinishesTold (HasWatched pids) tells_pids out out buffer buffer end.Unwritten
+  pub text_unput : is_wanting teller ≡ false → (out : Received) (buffer : Buffered)
+      → FinishesTold (HasTakenStream teller) tells_pids out out buffer buffer end.Unwritten
   text_unput found out buffer pid before now start is = (
     is.0,
     is.1,
     record {
       taken = is.2.taken;
-      text = slots_text pids.slots;
-      told = pids_told is.0 pids found is.2.told.watched;
+      text = (text_of_told teller is.0 is.2.text found is.2.told).0;
+      told = (text_of_told teller is.0 is.2.text found is.2.told).1;
       put_out = record {
         sent = λ fine. absurd (differs (sym is.4 ∙ fine));
         front = λ failed. let front = is.2.put_out.front failed in (
@@ -131,7 +131,7 @@ module _ (pids : PidsWatched) where
             0,
             omega arith,
             subst (Appends start.written out.written)
-                (ap (take front.0.0) is.2.told.nothing ∙ take_none front.0.0) front.0.2,
+                (ap (take front.0.0) is.2.told.pids.nothing ∙ take_none front.0.0) front.0.2,
           ),
           front.1,
         );

@@ -3,7 +3,8 @@ use Rattle.std.specs.Prelude.{ℕ, List, Option, Some, None}
 use Rattle.packet_walk.specs.ToldEnds.{IsToldEnd, IsUpToFailure, Telling}
 use Rattle.packet_walk.specs.declared.told_end.ToldEnd.{ToldEnd}
 use Rattle.packet_walk.specs.declared.told_end.ToldEnd.TheVariants as told_end
-use Rattle.pid_text.specs.PidText.{IsPidsText, NO_PID}
+use Rattle.pid_text.specs.PidText.{NO_PID}
+use Rattle.service_text.specs.Telling.{IsStreamText}
 use Rattle.sub_base.specs.Endpoints.{Received, Supplied, WroteNothing}
 use Rattle.sub_base.specs.Seen.{Seen}
 use Rattle.sub_base.specs.ToolOutcome.{Causes}
@@ -15,14 +16,14 @@ use Rattle.stream_report.specs.declared.report_fault.ReportFault.{ReportFault}
 
 -- what `pids` tells of packets, whether the stream ends with them or not
 abbrev pub tells_pids : Telling
-tells_pids ended packets text = IsPidsText packets text
+tells_pids ended packets text = IsStreamText packets text
 
 -- the causes of its statuses: a packet is refused for its sync byte alone
 abbrev pub pids_causes : PidsReport → Seen → Seen → Causes ReportFault
 pids_causes report before now = report_causes tells_pids NO_PID before now
 
--- the cause of each end of the telling. A PID takes memory as it is met, so that memory may be wanting in the middle of
--- the stream: nothing was written then
+-- the cause of each end of the telling. A PID and a programme take memory as they are met, so that memory may be
+-- wanting in the middle of the stream: nothing was written then
 abbrev pub IsPidsEnd : Supplied → Supplied → Received → Received → ToldEnd → Type 0
 IsPidsEnd before now out_before out_now (told_end.Done cut) =
     IsToldEnd tells_pids NO_PID before now out_before out_now (told_end.Done cut)

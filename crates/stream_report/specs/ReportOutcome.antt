@@ -1,7 +1,7 @@
 -- How a tool that tells of one stream ends, and what its output has received then; whatever it tells.
 use Rattle.std.specs.Prelude.{◌≡◌, ℕ, ◌⊎◌, List, None, codes}
 use Rattle.packet_source.specs.declared.limits.TheConstants.{STREAM_LIMIT}
-use Rattle.packet_walk.specs.ToldEnds.{IsFront, IsUpToFailure, IsUpToFault, IsWhole, Telling}
+use Rattle.packet_walk.specs.ToldEnds.{IsFront, IsToldEnd, IsUpToFailure, IsUpToFault, IsWhole, Telling}
 use Rattle.packet_walk.specs.declared.told_end.ToldEnd.{ToldEnd}
 use Rattle.packet_walk.specs.declared.told_end.ToldEnd.TheVariants as told_end
 use Rattle.sub_base.specs.Endpoints.{Received, Supplied, WroteNothing}
@@ -64,3 +64,33 @@ HasReportedRead Told pid before now tool.Usage = Unit {0}
 HasReportedRead Told pid before now (tool.Refused fault) = Unit {0}
 HasReportedRead Told pid before now (tool.WriteFault which) = Unit {0}
 HasReportedRead Told pid before now (tool.InputTooLong which) = Unit {0}
+
+-- ---- memory that is taken as the stream is read
+
+-- the cause of each end of a telling that takes memory in the middle of the stream: where it is wanting, nothing was
+-- written, or a front of the text of packets that the source gave
+abbrev pub IsLaterEnd : Telling → ℕ → Supplied → Supplied → Received → Received → ToldEnd → Type 0
+IsLaterEnd Told pid before now out_before out_now (told_end.Done cut) =
+    IsToldEnd Told pid before now out_before out_now (told_end.Done cut)
+IsLaterEnd Told pid before now out_before out_now (told_end.Refused refused) =
+    IsToldEnd Told pid before now out_before out_now (told_end.Refused refused)
+IsLaterEnd Told pid before now out_before out_now told_end.Unread =
+    IsToldEnd Told pid before now out_before out_now told_end.Unread
+IsLaterEnd Told pid before now out_before out_now told_end.TooLong =
+    IsToldEnd Told pid before now out_before out_now told_end.TooLong
+IsLaterEnd Told pid before now out_before out_now told_end.Unwritten =
+    IsToldEnd Told pid before now out_before out_now told_end.Unwritten
+IsLaterEnd Told pid before now out_before out_now told_end.Memory =
+    WroteNothing out_before out_now ⊎ IsFront Told pid before now out_before out_now
+
+-- where the stream could not be read on, the output has received the text of the packets that were read whole; where
+-- memory is wanting, nothing or a front
+abbrev pub HasReportedLater : Telling → ℕ → Seen → Seen → ToolStatus ReportFault → Type 0
+HasReportedLater Told pid before now (tool.ReadFault which) =
+    IsUpToFailure Told pid before.first now.first before.out now.out
+HasReportedLater Told pid before now tool.Memory = IsReportStopped Told pid before now
+HasReportedLater Told pid before now tool.Done = Unit {0}
+HasReportedLater Told pid before now tool.Usage = Unit {0}
+HasReportedLater Told pid before now (tool.Refused fault) = Unit {0}
+HasReportedLater Told pid before now (tool.WriteFault which) = Unit {0}
+HasReportedLater Told pid before now (tool.InputTooLong which) = Unit {0}

@@ -1,6 +1,6 @@
 ghost use Rattle.std.specs.Prelude.{◌≡◌, false};
 ghost use Rattle.packet_walk.specs.Closing.{FinishesTold};
-ghost use Rattle.pid_text.specs.Watched.{HasWatched};
+ghost use Rattle.service_text.specs.Telling.{HasTakenStream, is_wanting};
 ghost use Rattle.stream_report.specs.PidsOutcome.{HasPidsRead, HasToldPids, IsPidsEnd, pids_causes, tells_pids};
 ghost use Rattle.stream_report.specs.PidsWords.{pids_words as pids_words_of};
 ghost use Rattle.stream_report.specs.ReportOutcome.{report_fault_name, seen_of_stream};
@@ -12,12 +12,13 @@ use crate::report_status::report_status;
 use command_text::{TextBuffer, tell_tool};
 use packet_source::PacketSource;
 use packet_walk::{ToldEnd, WalkEnd, close_walk, walk_packets};
-use pid_text::Pids;
+use service_text::PidTeller;
 use std::alloc::Global;
 use sub_base::{Sink, Source, ToolStatus, Words};
 
-/// Carries out `pids STREAM OUT`: what the stream, `first`, has of subtitles on each of its PIDs is
-/// written to `out`. How it ended is told by the answer and by one line to `notes`.
+/// Carries out `pids STREAM OUT`: what the stream, `first`, has of subtitles on each of its PIDs,
+/// and the services that its tables list, are written to `out`. How it ended is told by the answer
+/// and by one line to `notes`.
 pub fn pids_top<A: Source, K: Sink, N: Sink>(
     alloc: Global,
     words: &Words,
@@ -79,7 +80,8 @@ fn pids<A: Source, K: Sink>(alloc: Global, stream: &mut A, out: &mut K) -> ToolS
     report_status(tell_pids(alloc, stream, out))
 }
 
-/// Writes the text of the PIDs of a stream. A PID takes its memory as it is met.
+/// Writes the text of the PIDs of a stream and of its services. A PID and a programme take their
+/// memory as they are met.
 fn tell_pids<A: Source, K: Sink>(alloc: Global, stream: &mut A, out: &mut K) -> ToldEnd
     ensures { IsPidsEnd
         (A.supplied stream.old)
@@ -88,7 +90,7 @@ fn tell_pids<A: Source, K: Sink>(alloc: Global, stream: &mut A, out: &mut K) -> 
         (K.received out.new)
         result }
 {
-    let Ok(mut pids) = Pids::make(alloc) else {
+    let Ok(mut teller) = PidTeller::make(alloc) else {
         return ToldEnd::Memory;
     };
     let Ok(mut buffer) = TextBuffer::make(alloc) else {
@@ -97,25 +99,25 @@ fn tell_pids<A: Source, K: Sink>(alloc: Global, stream: &mut A, out: &mut K) -> 
     let Ok(mut packets) = PacketSource::make(alloc) else {
         return ToldEnd::Memory;
     };
-    let end = walk_packets(stream, out, &mut buffer, &mut pids, &mut packets);
-    if pids.is_wanting() {
+    let end = walk_packets(stream, out, &mut buffer, &mut teller, &mut packets);
+    if teller.is_wanting() {
         return ToldEnd::Memory;
     }
-    finish(&pids, out, &mut buffer, end);
+    finish(&mut teller, out, &mut buffer, end);
     close_walk(out, &mut buffer, end)
 }
 
 /// Puts out what is told of the packets that were taken, where the output could be written.
-fn finish<K: Sink>(pids: &Pids, out: &mut K, buffer: &mut TextBuffer, end: WalkEnd)
-    requires { pids.now.is_wanting ≡ false }
-    ensures { FinishesTold (HasWatched pids.now) tells_pids
+fn finish<K: Sink>(teller: &mut PidTeller, out: &mut K, buffer: &mut TextBuffer, end: WalkEnd)
+    requires { is_wanting teller.old ≡ false }
+    ensures { FinishesTold (HasTakenStream teller.old) tells_pids
         (K.received out.old)
         (K.received out.new)
         buffer.old buffer.new end }
 {
     match end {
-        WalkEnd::Stream(_) => pids.put_text(out, buffer),
-        WalkEnd::Refused(_) => pids.put_text(out, buffer),
+        WalkEnd::Stream(_) => teller.put_text(out, buffer),
+        WalkEnd::Refused(_) => teller.put_text(out, buffer),
         WalkEnd::Unwritten => {}
     }
 }

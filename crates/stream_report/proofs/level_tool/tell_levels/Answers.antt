@@ -1,48 +1,27 @@
--- What `levels` tells, by the end of its walk.
-use Rattle.std.proofs.Common.{◌≡◌, ◌∙◌, ℕ, ap, sym, subst}
-use Rattle.level_text.proofs.LevelLaws.{tells_as_made}
-use Rattle.level_text.specs.Levelling.{Levelling, levels_tell}
-use Rattle.packet_walk.proofs.CloseLaws.{closed}
-use Rattle.packet_walk.proofs.EndLaws.{end_told}
-use Rattle.packet_walk.specs.Closing.{is_whole_end}
-use Rattle.packet_walk.specs.ToldEnds.{IsToldEnd}
-use Rattle.decoder_model.specs.Received.{Reception, for_page}
-use Rattle.set_receiver.specs.Receiving.{reception}
-use Rattle.sub_base.proofs.ProfileLaws.{every_profile}
-use Rattle.sub_base.specs.Profile.{IsProfile}
-use Rattle.stream_report.specs.LevelsOutcome.{tells_levels}
+-- What `levels` tells, however packets arrive.
+use Rattle.std.proofs.Common.{sym, subst}
+use Rattle.decoder_model.specs.Received.{for_page}
+use Rattle.stream_report.specs.LevelsOutcome.{IsLevelsEnd}
+use Rattle.stream_report.specs.LevelsWords.{MayArrive}
+use Rattle.stream_report.specs.declared.levels_words.Arrival.{Arrival}
 use Rattle.stream_report.proofs.level_tool.tell_levels.Goals as goal
 
-pub make-requires-clause-profile : goal.make-requires-clause-profile
-make-requires-clause-profile g c =
-    subst IsProfile (sym c.of-profile.ensures) (every_profile c.args.report.profile)
+pub tell_by_rate-requires-clause-least : goal.tell_by_rate-requires-clause-least
+tell_by_rate-requires-clause-least g c = (subst MayArrive c.in-Rate.is c.requires.arrival).0
 
-pub returns : goal.returns
-returns g c =
-    let made = c.in-Ok.levels in
-    let walked = c.walk_packets-end.new.teller in
-    let report = c.args.report in
-    let end = c.walk_packets-end.result in
-    let pid = (reception made.sets.receiving).pid in
-    let same : reception walked.sets.receiving ≡ for_page report.profile report.pid report.page 0 =
-    ap (λ (kept : Reception × ℕ). kept.0) c.walk_packets-end.ensures.same ∙ c.in-Ok.ensures.made
-    ∙ (λ i. record {
-      profile = c.of-profile.ensures i;
-      pid = report.pid;
-      pages = c.only-pages.ensures i;
-      anchor = 0;
-    }) in
-    let at_rate : walked.rate ≡ report.rate =
-    ap (λ (kept : Reception × ℕ). kept.1) c.walk_packets-end.ensures.same ∙ c.in-Ok.ensures.rate in
-    let ended = c.finish.ensures pid _ _ _ c.walk_packets-end.ensures.end in
-    let told =
-    end_told (levels_tell walked (is_whole_end end)) (tells_levels report (is_whole_end end)) pid _ _ _ _
-    c.finish.new.buffer end
-    (λ packets text. tells_as_made (for_page report.profile report.pid report.page 0) report.rate walked
-    (is_whole_end end) packets text same at_rate) ended in
-    subst (λ (pid : ℕ). IsToldEnd (tells_levels report) pid (g.A.Source.supplied c.args.stream.now)
-    (g.A.Source.supplied c.walk_packets-end.new.stream) (g.K.Sink.received c.args.out.now)
-    (g.K.Sink.received c.close_walk.new.out) c.close_walk.result)
-    (ap (λ (one : Reception). one.pid) c.in-Ok.ensures.made)
-    (closed (tells_levels report) pid _ _ _ _ _ c.finish.new.buffer end c.close_walk.result told
-    c.close_walk.ensures)
+pub tell_by_rate-requires-clause-most : goal.tell_by_rate-requires-clause-most
+tell_by_rate-requires-clause-most g c = (subst MayArrive c.in-Rate.is c.requires.arrival).1
+
+pub returns-in-Rate : goal.returns-in-Rate
+returns-in-Rate g c =
+    subst (λ (by : Arrival). IsLevelsEnd by
+    (for_page c.args.report.profile c.args.report.pid c.args.report.page 0) (g.A.Source.supplied c.args.stream.now)
+    (g.A.Source.supplied c.tell_by_rate.new.stream) (g.K.Sink.received c.args.out.now)
+    (g.K.Sink.received c.tell_by_rate.new.out) c.tell_by_rate.result) (sym c.in-Rate.is) c.tell_by_rate.ensures
+
+pub returns-in-Clock : goal.returns-in-Clock
+returns-in-Clock g c =
+    subst (λ (by : Arrival). IsLevelsEnd by
+    (for_page c.args.report.profile c.args.report.pid c.args.report.page 0) (g.A.Source.supplied c.args.stream.now)
+    (g.A.Source.supplied c.tell_by_clock.new.stream) (g.K.Sink.received c.args.out.now)
+    (g.K.Sink.received c.tell_by_clock.new.out) c.tell_by_clock.result) (sym c.in-Clock.is) c.tell_by_clock.ensures

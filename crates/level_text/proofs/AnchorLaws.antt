@@ -1,0 +1,377 @@
+-- A receiver whose lifted times begin when its first packet arrives: packets that it takes, and the end.
+use Rattle.std.proofs.Common.{◌≡◌, ◌∙◌, ℕ, zero, suc, ◌+◌, ◌<◌, ◌≤◌, min, Bool, true, false, List, [], ◌∷◌, ◌++◌, length, get_or, Option, Some, None, Result, Ok, Err, MatchResult, OnOk, is_some, append-nil, append_assoc, refl, sym, ap, subst, arith}
+use Rattle.std.proofs.Math.Seq.{get_or-append_seam}
+use Rattle.std.proofs.lemmas.List.{get_or_append_left, length-append}
+use Rattle.buffer_model.specs.Ticks.{by_ticks}
+use Rattle.check_text.specs.Checking.{Checking, HasMetered}
+use Rattle.check_text.specs.Courses.{IsTextBy}
+use Rattle.check_text.proofs.MeteredLaws.{metered_so_far, none_received}
+use Rattle.command_text.specs.Putting.{Buffered, PutsOut}
+use Rattle.command_text.proofs.PutLaws.{PutsOut-both, PutsOut-nothing}
+use Rattle.decoder_model.specs.Received.{Reception}
+use Rattle.packet_walk.specs.Told.{TellsOne}
+use Rattle.pcr_clock.specs.Arrivals.{tick_at}
+use Rattle.set_receiver.specs.Receiving.{reception}
+use Rattle.stream_syntax.specs.declared.transport.PacketFault.{PacketFault}
+use Rattle.sub_base.specs.Endpoints.{Received}
+use Rattle.sub_base.specs.declared.pace.Pace.{Pace}
+use Rattle.sub_base.specs.declared.profile.Profile.{Profile}
+use Rattle.level_text.specs.Anchoring.{Anchoring, EndsTimed, FinishesTimed, HasBegun, HasTimed, IsAskedFor, IsMeterFor, IsBegunIn, IsTimed, IsTimedIn, TakesTimed}
+use Rattle.level_text.specs.ClockText.{at_ticks, from_first}
+use Rattle.level_text.specs.declared.anchored_meter.TheConstants.{LATEST_ANCHOR}
+use Rattle.level_text.proofs.SlotLaws.{metered_same}
+
+pub not_both : (test : Bool) → test ≡ true → test ≡ false → ⊥
+not_both test one other = cc
+
+-- ---- ticks of which more become known
+
+-- the packets whose ticks were known arrive at the same
+more_metered : (known more : List ℕ) (sets : Checking) (packets : List (List ℕ)) (text : List ℕ)
+    → length known ≡ length packets → HasMetered (tick_at known) sets packets text
+    → HasMetered (tick_at (known ++ more)) sets packets text
+more_metered known more sets packets text counted has =
+    metered_same (tick_at known) (tick_at (known ++ more)) sets packets text
+    (λ k within. sym (get_or_append_left known more 0 k (omega (arith, within, counted)))) has
+
+-- lifted times begin with the same packet
+same_first : (known more : List ℕ) (asked : Reception) → 0 < length known
+    → from_first known asked ≡ from_first (known ++ more) asked
+same_first known more asked some = λ i. record {
+  profile = asked.profile;
+  pid = asked.pid;
+  pages = asked.pages;
+  anchor = min LATEST_ANCHOR (sym (get_or_append_left known more 0 0 some) i);
+}
+
+-- behind all ticks that are known stands 0
+zero_behind : (known : List ℕ) (place : ℕ) → get_or (known ++ 0 ∷ []) place 0 ≡ get_or known place 0
+zero_behind [] zero = refl
+zero_behind [] (suc place) = refl
+zero_behind (tick ∷ known) zero = refl
+zero_behind (tick ∷ known) (suc place) = zero_behind known place
+
+-- ---- the receiver is made with the first packet
+
+none_known : (known : List ℕ) (packets : List (List ℕ)) → packets ≡ [] → length known ≡ length packets → known ≡ []
+none_known [] packets none counted = refl
+none_known (tick ∷ known) packets none counted =
+    absurd (let none_there : length packets ≡ 0 = ap length none in omega (arith, counted, none_there))
+
+-- it is there
+pub begun_there : (known : List ℕ) (tick : ℕ) (asked : Reception) (sets : Checking) (wanting : Bool)
+    (taken : List (List ℕ)) (text : List ℕ)
+    → HasTimed known (record { asked = asked; sets = Some sets; is_wanting = wanting }) taken text
+    → HasBegun (known ++ tick ∷ []) (record { asked = asked; sets = Some sets; is_wanting = wanting }) taken text
+begun_there known tick asked sets wanting taken text has = record {
+  nothing = has.nothing;
+  taken = λ found.
+      let timed = has.taken found in record {
+        own = timed.1.own ∙ same_first known (tick ∷ []) asked timed.0;
+        pace = timed.1.pace;
+        metered = more_metered known (tick ∷ []) sets taken text has.counted timed.1.metered;
+      };
+}
+
+-- it is made
+pub begun_anew : (known : List ℕ) (tick : ℕ) (asked : Reception) (sets : Checking) (taken : List (List ℕ))
+    (text : List ℕ)
+    → reception sets.receiving ≡ from_first (tick ∷ []) asked → sets.meter.pace ≡ by_ticks asked.profile
+    → ((slot_of : ℕ → ℕ) → HasMetered slot_of sets [] [])
+    → HasTimed known (record { asked = asked; sets = None; is_wanting = false }) taken text
+    → HasBegun (known ++ tick ∷ []) (record { asked = asked; sets = Some sets; is_wanting = false }) taken text
+begun_anew known tick asked sets taken text own pace metered has =
+    let before = has.taken refl in
+    let none : known ≡ [] = none_known known taken before.0 has.counted in
+    record {
+      nothing = λ wanting. absurd (cc);
+      taken = λ found. record {
+        own = own ∙ (λ i. from_first (sym none i ++ tick ∷ []) asked);
+        pace = pace;
+        metered =
+            subst (λ (ticks : List ℕ). HasMetered (tick_at (ticks ++ tick ∷ [])) sets taken text) (sym none)
+            (subst (λ (front : List ℕ). HasMetered (tick_at (tick ∷ [])) sets taken front) (sym before.1)
+            (subst (λ (packets : List (List ℕ)). HasMetered (tick_at (tick ∷ [])) sets packets []) (sym before.0)
+            (metered (tick_at (tick ∷ [])))));
+      };
+    }
+
+-- no memory is found for it
+pub begun_in_want : (known : List ℕ) (tick : ℕ) (asked : Reception) (taken : List (List ℕ)) (text : List ℕ)
+    → HasTimed known (record { asked = asked; sets = None; is_wanting = false }) taken text
+    → HasBegun (known ++ tick ∷ []) (record { asked = asked; sets = None; is_wanting = true }) taken text
+begun_in_want known tick asked taken text has = record {
+  nothing = λ wanting. (has.taken refl).1;
+  taken = λ found. absurd (cc);
+}
+
+-- none was found before
+pub begun_wanting : (known : List ℕ) (tick : ℕ) (asked : Reception) (taken : List (List ℕ)) (text : List ℕ)
+    → HasTimed known (record { asked = asked; sets = None; is_wanting = true }) taken text
+    → HasBegun (known ++ tick ∷ []) (record { asked = asked; sets = None; is_wanting = true }) taken text
+begun_wanting known tick asked taken text has = record {
+  nothing = has.nothing;
+  taken = λ found. absurd (cc);
+}
+
+-- none came before
+pub begun_first : (known : List ℕ) (tick : ℕ) (asked : Reception) (sets : Checking) (there : Option Checking)
+    (wanting : Bool) (taken : List (List ℕ)) (text : List ℕ) → is_some there ≡ false → wanting ≡ false
+    → reception sets.receiving ≡ from_first (tick ∷ []) asked → sets.meter.pace ≡ by_ticks asked.profile
+    → ((slot_of : ℕ → ℕ) → HasMetered slot_of sets [] [])
+    → HasTimed known (record { asked = asked; sets = there; is_wanting = wanting }) taken text
+    → HasBegun (known ++ tick ∷ []) (record { asked = asked; sets = Some sets; is_wanting = wanting }) taken text
+begun_first known tick asked sets None false taken text none found own pace metered has =
+    begun_anew known tick asked sets taken text own pace metered has
+begun_first known tick asked sets None true taken text none found own pace metered has =
+    absurd (not_both true refl found)
+begun_first known tick asked sets (Some one) wanting taken text none found own pace metered has =
+    absurd (not_both true refl none)
+
+-- none came before, and no memory is found
+pub begun_unfound : (known : List ℕ) (tick : ℕ) (asked : Reception) (there : Option Checking) (wanting : Bool)
+    (taken : List (List ℕ)) (text : List ℕ) → is_some there ≡ false → wanting ≡ false
+    → HasTimed known (record { asked = asked; sets = there; is_wanting = wanting }) taken text
+    → HasBegun (known ++ tick ∷ []) (record { asked = asked; sets = there; is_wanting = true }) taken text
+begun_unfound known tick asked None false taken text none found has = begun_in_want known tick asked taken text has
+begun_unfound known tick asked None true taken text none found has = absurd (not_both true refl found)
+begun_unfound known tick asked (Some one) wanting taken text none found has = absurd (not_both true refl none)
+
+-- one came before, or no memory was found
+pub begun_before : (known : List ℕ) (tick : ℕ) (asked : Reception) (there : Option Checking) (wanting : Bool)
+    (taken : List (List ℕ)) (text : List ℕ) → (is_some there ≡ false → wanting ≡ false → ⊥)
+    → HasTimed known (record { asked = asked; sets = there; is_wanting = wanting }) taken text
+    → HasBegun (known ++ tick ∷ []) (record { asked = asked; sets = there; is_wanting = wanting }) taken text
+begun_before known tick asked None false taken text other has = absurd (other refl refl)
+begun_before known tick asked None true taken text other has = begun_wanting known tick asked taken text has
+begun_before known tick asked (Some sets) wanting taken text other has =
+    begun_there known tick asked sets wanting taken text has
+
+-- where a receiver is there, memory was found for it
+pub found_where : (wanting : Bool) (there : Option Checking) (sets : Checking) → (wanting ≡ true → there ≡ None)
+    → there ≡ Some sets → wanting ≡ false
+found_where false there sets none is = refl
+found_where true there sets none is = absurd (not_both true refl (sym (ap is_some (sym (none refl) ∙ is))))
+
+-- a receiver that is there is for what is asked
+pub asked_where : (asked : Reception) (there : Option Checking) (sets : Checking) → IsAskedFor asked there
+    → there ≡ Some sets → IsMeterFor asked sets
+asked_where asked there sets is same = subst (IsAskedFor asked) same is
+
+-- a packet that can be taken is taken
+pub taken_right : {X : Type 0} (result : Result (Unit {0}) PacketFault) (fault : Option PacketFault)
+    → MatchResult result (λ _. fault ≡ None) (λ one. fault ≡ Some one) → fault ≡ None → OnOk result X → X
+taken_right (Ok x) fault is none told = told
+taken_right (Err one) fault is none told = absurd (not_both true refl (sym (ap is_some (sym none ∙ is))))
+
+-- ---- packets
+
+-- no packet
+pub timed_none : (anchoring : Anchoring) (shown : Received) (buffer : Buffered)
+    → TakesTimed shown shown anchoring anchoring buffer buffer [] []
+timed_none anchoring shown buffer = record {
+  goes = λ known taken text has. (
+    [],
+    subst (λ (ticks : List ℕ). HasTimed ticks anchoring (taken ++ []) (text ++ [])) (sym (append-nil known))
+        (subst (λ (packets : List (List ℕ)). HasTimed known anchoring packets (text ++ [])) (sym (append-nil taken))
+        (subst (λ (front : List ℕ). HasTimed known anchoring taken front) (sym (append-nil text)) has)),
+    PutsOut-nothing shown buffer,
+  );
+}
+
+-- packets, and others behind them
+pub timed_both : (a b c : Received) (old mid new : Anchoring) (was between is : Buffered) (some more : List ℕ)
+    (front rest : List (List ℕ))
+    → TakesTimed a b old mid was between some front → TakesTimed b c mid new between is more rest
+    → TakesTimed a c old new was is (some ++ more) (front ++ rest)
+timed_both a b c old mid new was between is some more front rest one other = record {
+  goes = λ known taken text has.
+      let first = one.goes known taken text has in
+      let second = other.goes (known ++ some) (taken ++ front) (text ++ first.0) first.1 in (
+        first.0 ++ second.0,
+        subst (λ (ticks : List ℕ). HasTimed ticks new (taken ++ (front ++ rest)) (text ++ (first.0 ++ second.0)))
+            (append_assoc known some more)
+            (subst (λ (packets : List (List ℕ)). HasTimed ((known ++ some) ++ more) new packets
+            (text ++ (first.0 ++ second.0))) (append_assoc taken front rest)
+            (subst (λ (told : List ℕ). HasTimed ((known ++ some) ++ more) new ((taken ++ front) ++ rest) told)
+            (append_assoc text first.0 second.0) second.1)),
+        PutsOut-both a b c was between is first.0 second.0 first.2 second.2,
+      );
+}
+
+one_longer : (known : List ℕ) (tick : ℕ) (taken : List (List ℕ)) (packet : List ℕ) → length known ≡ length taken
+    → length (known ++ tick ∷ []) ≡ length (taken ++ packet ∷ [])
+one_longer known tick taken packet counted =
+    omega (arith, counted, length-append known (tick ∷ []), length-append taken (packet ∷ []))
+
+-- one packet, where the receiver is there
+pub one_timed : (before now : Received) (old begun new : Anchoring) (sets next : Checking) (was is : Buffered)
+    (tick : ℕ) (packet : List ℕ)
+    → ((known : List ℕ) (taken : List (List ℕ)) (text : List ℕ) → HasTimed known old taken text
+    → HasBegun (known ++ tick ∷ []) begun taken text)
+    → begun.sets ≡ Some sets → begun.is_wanting ≡ false → new.sets ≡ Some next → new.is_wanting ≡ false
+    → new.asked ≡ begun.asked
+    → ((slot_of : ℕ → ℕ) (place : ℕ) → slot_of place ≡ tick
+    → TellsOne (HasMetered slot_of) before now sets next was is place packet)
+    → reception next.receiving ≡ reception sets.receiving → next.meter.pace ≡ sets.meter.pace
+    → TakesTimed before now old new was is (tick ∷ []) (packet ∷ [])
+one_timed before now old begun new sets next was is tick packet begins there found now_there now_found for_same tells
+    same pace = record {
+      goes = λ known taken text has.
+          let timed : IsTimed begun.asked (known ++ tick ∷ []) sets taken text =
+          subst (λ (one : Option Checking). IsBegunIn begun.asked (known ++ tick ∷ []) one taken text) there
+          ((begins known taken text has).taken found) in
+          let told =
+          (tells (tick_at (known ++ tick ∷ [])) (length taken)
+          (ap (λ (n : ℕ). get_or (known ++ tick ∷ []) n 0) (sym has.counted) ∙ get_or-append_seam known tick [] 0)).goes
+          taken text refl timed.metered in (
+            told.0,
+            record {
+              counted = one_longer known tick taken packet has.counted;
+              nothing = λ wanting. absurd (not_both new.is_wanting wanting now_found);
+              taken = λ _.
+                  subst (λ (there : Option Checking). IsTimedIn new.asked (known ++ tick ∷ []) there
+                  (taken ++ packet ∷ []) (text ++ told.0)) (sym now_there)
+                  (subst (λ (asked : Reception). IsTimedIn asked (known ++ tick ∷ []) (Some next) (taken ++ packet ∷ [])
+                  (text ++ told.0)) (sym for_same) (
+                    omega (arith, length-append known (tick ∷ [])),
+                    record {
+                      own = same ∙ timed.own;
+                      pace = pace ∙ timed.pace;
+                      metered = told.1;
+                    },
+                  ));
+            },
+            told.2,
+          );
+    }
+
+-- one packet, where no memory was found for the receiver
+pub one_untold : (shown : Received) (old new : Anchoring) (buffer : Buffered) (tick : ℕ) (packet : List ℕ)
+    → ((known : List ℕ) (taken : List (List ℕ)) (text : List ℕ) → HasTimed known old taken text
+    → HasBegun (known ++ tick ∷ []) new taken text)
+    → new.sets ≡ None → TakesTimed shown shown old new buffer buffer (tick ∷ []) (packet ∷ [])
+one_untold shown old new buffer tick packet begins none = record {
+  goes = λ known taken text has. (
+    [],
+    record {
+      counted = one_longer known tick taken packet has.counted;
+      nothing = λ wanting. append-nil text ∙ (begins known taken text has).nothing wanting;
+      taken = λ found. absurd
+          (subst (λ (there : Option Checking). IsBegunIn new.asked (known ++ tick ∷ []) there taken text) none
+          ((begins known taken text has).taken found));
+    },
+    PutsOut-nothing shown buffer,
+  );
+}
+
+-- ---- the end
+
+-- a text by the ticks of a list is one by the same ticks
+abbrev by_slots : Reception → Bool → List (List ℕ) → List ℕ → (ℕ → ℕ) → Type 0
+by_slots asked ended packets text slot_of =
+    IsTextBy (record { slot_of = slot_of; pace = by_ticks asked.profile })
+    (record {
+      profile = asked.profile;
+      pid = asked.pid;
+      pages = asked.pages;
+      anchor = min LATEST_ANCHOR (slot_of 0);
+    }) ended packets text
+
+-- a text by a receiver's own pace is that of what it is for
+pub text_as_asked : (asked made : Reception) (pace : Pace) (ended : Bool) (ticks : List ℕ) (packets : List (List ℕ))
+    (text : List ℕ)
+    → made ≡ from_first ticks asked → pace ≡ by_ticks asked.profile
+    → IsTextBy (record { slot_of = tick_at ticks; pace = pace }) made ended packets text
+    → IsTextBy (at_ticks ticks asked.profile) (from_first ticks asked) ended packets text
+text_as_asked asked made pace ended ticks packets text own pace_is told =
+    subst (λ (one : Reception). IsTextBy (at_ticks ticks asked.profile) one ended packets text) own
+    (subst (λ (one : Pace). IsTextBy (record { slot_of = tick_at ticks; pace = one }) made ended packets text) pace_is
+    told)
+
+nothing_told : (asked : Reception) (ticks : List ℕ) (packets : List (List ℕ)) (text : List ℕ) → packets ≡ [] → text ≡ []
+    → IsTextBy (at_ticks ticks asked.profile) (from_first ticks asked) false packets text
+nothing_told asked ticks packets text none empty =
+    subst (λ (all : List (List ℕ)). IsTextBy (at_ticks ticks asked.profile) (from_first ticks asked) false all text)
+    (sym none)
+    (subst (λ (front : List ℕ). IsTextBy (at_ticks ticks asked.profile) (from_first ticks asked) false [] front)
+    (sym empty)
+    (record {
+      told = [];
+      are = record { past = []; received = none_received (from_first ticks asked); are = refl };
+      whole = refl;
+    }))
+
+-- what was told of packets, where the stream does not end with them
+pub told_so_far : (asked : Reception) (ticks : List ℕ) (sets : Option Checking) (packets : List (List ℕ))
+    (text : List ℕ) → IsTimedIn asked ticks sets packets text
+    → IsTextBy (at_ticks ticks asked.profile) (from_first ticks asked) false packets text
+told_so_far asked ticks None packets text is = nothing_told asked ticks packets text is.0 is.1
+told_so_far asked ticks (Some sets) packets text is =
+    text_as_asked asked (reception sets.receiving) sets.meter.pace false ticks packets text is.1.own is.1.pace
+    (metered_so_far (tick_at ticks) sets packets text is.1.metered)
+
+-- the stream has not ended
+pub unfinished : (anchoring : Anchoring) (shown : Received) (buffer : Buffered)
+    → FinishesTimed false shown shown anchoring anchoring buffer buffer
+unfinished anchoring shown buffer = record {
+  goes = λ known taken text has. (
+    [],
+    subst (λ (front : List ℕ). EndsTimed false known anchoring taken front) (sym (append-nil text))
+        (record {
+          nothing = has.nothing;
+          told = λ found. told_so_far anchoring.asked known anchoring.sets taken text (has.taken found);
+        }),
+    PutsOut-nothing shown buffer,
+  );
+}
+
+-- the stream has ended, where the receiver is there
+pub finished_timed : (before now : Received) (old begun new : Anchoring) (sets : Checking) (was is : Buffered)
+    → ((known : List ℕ) (taken : List (List ℕ)) (text : List ℕ) → HasTimed known old taken text
+    → HasBegun (known ++ 0 ∷ []) begun taken text)
+    → begun.sets ≡ Some sets → begun.is_wanting ≡ false → new.is_wanting ≡ false → new.asked ≡ begun.asked
+    → ((slot_of : ℕ → ℕ) (packets : List (List ℕ)) (text : List ℕ) → HasMetered slot_of sets packets text
+    → (more : List ℕ)
+    × IsTextBy (record { slot_of = slot_of; pace = sets.meter.pace }) (reception sets.receiving) true packets
+    (text ++ more) × PutsOut before now was is more)
+    → FinishesTimed true before now old new was is
+finished_timed before now old begun new sets was is begins there found now_found for_same finishes = record {
+  goes = λ known taken text has.
+      let timed : IsTimed begun.asked (known ++ 0 ∷ []) sets taken text =
+      subst (λ (one : Option Checking). IsBegunIn begun.asked (known ++ 0 ∷ []) one taken text) there
+      ((begins known taken text has).taken found) in
+      let told = finishes (tick_at (known ++ 0 ∷ [])) taken text timed.metered in
+      let by_more =
+      text_as_asked begun.asked (reception sets.receiving) sets.meter.pace true (known ++ 0 ∷ []) taken
+      (text ++ told.0) timed.own timed.pace told.1 in (
+        told.0,
+        record {
+          nothing = λ wanting. absurd (not_both new.is_wanting wanting now_found);
+          told = λ _.
+              subst (λ (asked : Reception). IsTextBy (at_ticks known asked.profile) (from_first known asked) true taken
+              (text ++ told.0)) (sym for_same)
+              (subst (by_slots begun.asked true taken (text ++ told.0)) (λ i place. zero_behind known place i)
+              by_more);
+        },
+        told.2,
+      );
+}
+
+-- the stream has ended, where no memory was found for the receiver
+pub finished_untold : (shown : Received) (old new : Anchoring) (buffer : Buffered)
+    → ((known : List ℕ) (taken : List (List ℕ)) (text : List ℕ) → HasTimed known old taken text
+    → HasBegun (known ++ 0 ∷ []) new taken text)
+    → new.sets ≡ None → FinishesTimed true shown shown old new buffer buffer
+finished_untold shown old new buffer begins none = record {
+  goes = λ known taken text has. (
+    [],
+    record {
+      nothing = λ wanting. append-nil text ∙ (begins known taken text has).nothing wanting;
+      told = λ found. absurd
+          (subst (λ (there : Option Checking). IsBegunIn new.asked (known ++ 0 ∷ []) there taken text) none
+          ((begins known taken text has).taken found));
+    },
+    PutsOut-nothing shown buffer,
+  );
+}

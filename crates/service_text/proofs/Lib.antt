@@ -1,0 +1,4 @@
+pub mod EntryLaws
+pub mod OrderLaws
+pub mod PlaceLaws
+pub mod TellLaws

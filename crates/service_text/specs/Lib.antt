@@ -1,0 +1,6 @@
+pub mod Listing
+pub mod Order
+pub mod Private
+pub mod ServiceText
+pub mod Services
+pub mod Telling
