@@ -1,7 +1,7 @@
 use Rattle.std.proofs.Common.{◌≡◌, ◌∙◌, sym, ap, subst, ℕ, ◌+◌, ◌-◌, ◌*◌, ◌/◌, ◌%◌, ◌<◌, ◌≤◌, ◌^◌, arith}
 use Rattle.std.proofs.lemmas.Nat.{pow_pos, pow-add, shr-shr, field_of, shr_high, mod_low, mod-pow-add, mod_below, shr_below, mul-add-lt}
 use Rattle.std.proofs.Math.Nat.{add-mul, mul_assoc, mul_comm}
-use Rattle.pixel_store.specs.Codes.{bits_at}
+use Rattle.string_painting.specs.Codes.{bits_at}
 use Rattle.pixel_store.specs.Private.Painting.{splice}
 
 -- cutting off twice is cutting off once

@@ -5,7 +5,7 @@ use Rattle.std.proofs.lemmas.List.{get_or-replicate, length-replicate, map-appen
 use Rattle.sub_base.specs.declared.depth.Depth.{Depth}
 use Rattle.sub_base.specs.declared.depth.Depth.TheVariants.{Two, Four, Eight}
 use Rattle.pixel_store.specs.declared.extent.Extent.{Extent}
-use Rattle.pixel_store.specs.Codes.{codes_in_byte, code_in}
+use Rattle.string_painting.specs.Codes.{codes_in_byte, code_in}
 use Rattle.pixel_store.specs.Private.Extents.{stride_of, room_of, size_of, row_start}
 use Rattle.pixel_store.specs.Regions.{StoredRegion, with_region}
 use Rattle.pixel_store.specs.Private.Stores.{region_in, no_extent, Adjoin, IsTidy, extent_at, IsStore, regions_in}

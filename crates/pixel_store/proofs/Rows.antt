@@ -4,7 +4,7 @@ use Rattle.std.proofs.lemmas.Bool.{cases_lt, cases_order}
 use Rattle.sub_base.specs.declared.depth.Depth.{Depth}
 use Rattle.sub_base.specs.declared.depth.Depth.TheVariants.{Two, Four, Eight}
 use Rattle.pixel_store.specs.declared.extent.Extent.{Extent}
-use Rattle.pixel_store.specs.Codes.{codes_in_byte, code_in}
+use Rattle.string_painting.specs.Codes.{codes_in_byte, code_in}
 use Rattle.pixel_store.specs.Private.Extents.{stride_of, room_of, size_of, row_start, pixel, Fits}
 use Rattle.pixel_store.specs.Private.Painting.{ones_of, code_number, Paints, PaintsRow, Fills}
 use Rattle.sub_base.specs.Depth.{code_count, packed_length}

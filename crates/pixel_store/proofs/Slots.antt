@@ -6,7 +6,7 @@ use Rattle.std.proofs.lemmas.List.{get_or-map, get_or-take, get_or-drop, ext_get
 use Rattle.std.proofs.Math.ListN.{get_or-eq_default}
 use Rattle.pixel_store.specs.declared.extent.Extent.{Extent}
 use Rattle.sub_base.specs.declared.depth.Depth.TheVariants.{Two}
-use Rattle.pixel_store.specs.Codes.{codes_in_byte, code_in}
+use Rattle.string_painting.specs.Codes.{codes_in_byte, code_in}
 use Rattle.pixel_store.specs.Private.Extents.{stride_of, room_of, size_of, row_start, pixel, Fits}
 use Rattle.pixel_store.specs.Private.Painting.{PaintsRow, Fills}
 use Rattle.pixel_store.specs.Regions.{StoredRegion, code_of, row_of, blank, region_at, KeepsOthers, IsRunPainted, IsFilled, IsPackedRow, need_in}

@@ -5,7 +5,7 @@ use Rattle.std.proofs.lemmas.Nat.{row_fits_turned}
 use Rattle.sub_base.specs.declared.depth.Depth.{Depth}
 use Rattle.sub_base.specs.declared.depth.Depth.TheVariants.{Two}
 use Rattle.pixel_store.specs.declared.extent.Extent.{Extent}
-use Rattle.pixel_store.specs.Codes.{codes_in_byte, code_in}
+use Rattle.string_painting.specs.Codes.{codes_in_byte, code_in}
 use Rattle.pixel_store.specs.Private.Extents.{stride_of, room_of, size_of, row_start, pixel, Fits}
 use Rattle.pixel_store.specs.Private.Painting.{PaintsRow, Fills}
 use Rattle.pixel_store.specs.Regions.{StoredRegion, Regions, IsPlaced, region_at, code_of, blank, need_in, with_region, PlacesOne, KeepsOthers, IsFilled, IsRunPainted, IsPackedRow}

@@ -2,7 +2,7 @@
 use Rattle.std.specs.Prelude.{◌≡◌, ◌≢◌, ℕ, ◌+◌, ◌-◌, ◌*◌, ◌<◌, ◌≤◌, ◌⊎◌, List, [], ◌∷◌, ◌++◌, length, slice_index_or, slice_range, replicate}
 use Rattle.sub_base.specs.declared.depth.Depth.{Depth}
 use Rattle.sub_base.specs.declared.depth.Depth.TheVariants.{Two}
-use Rattle.pixel_store.specs.Codes.{packed_code, codes_in_byte}
+use Rattle.string_painting.specs.Codes.{packed_code, codes_in_byte}
 use Rattle.sub_base.specs.Depth.{packed_length, pixel_bytes}
 
 -- a region: its sides in pixels, its depth, and its packed rows, one after another

@@ -2,7 +2,7 @@
 
 ghost use Rattle.std.specs.Prelude.{◌≡◌, ◌+◌, ◌-◌, ◌*◌, ◌/◌, ◌%◌, ◌<◌, ◌≤◌};
 ghost use Rattle.sub_base.specs.Depth.{code_count};
-ghost use Rattle.pixel_store.specs.Codes.{codes_in_byte, code_in};
+ghost use Rattle.string_painting.specs.Codes.{codes_in_byte, code_in};
 ghost use Rattle.pixel_store.specs.Private.Painting.{ones_of, splice, PaintsByte};
 
 use sub_base::Depth;

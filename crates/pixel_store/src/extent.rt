@@ -2,7 +2,7 @@
 
 ghost use Rattle.std.specs.Prelude.{◌≡◌, ℕ, ◌+◌, ◌*◌, ◌%◌, ◌<◌, ◌≤◌, ◌⊎◌, ◌^◌, length, slice_index, slice_range};
 ghost use Rattle.sub_base.specs.Depth.{code_count};
-ghost use Rattle.pixel_store.specs.Codes.{codes_in_byte};
+ghost use Rattle.string_painting.specs.Codes.{codes_in_byte};
 ghost use Rattle.pixel_store.specs.Private.Extents.{stride_of, size_of, row_start as start_of, pixel, Fits};
 ghost use Rattle.pixel_store.specs.Private.Painting.{PaintsRow, Fills};
 

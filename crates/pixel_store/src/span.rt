@@ -2,7 +2,7 @@
 
 ghost use Rattle.std.specs.Prelude.{◌≡◌, ℕ, ◌+◌, ◌*◌, ◌<◌, ◌≤◌, ◌⊎◌, ◌^◌, length, slice_index};
 ghost use Rattle.sub_base.specs.Depth.{code_count};
-ghost use Rattle.pixel_store.specs.Codes.{codes_in_byte};
+ghost use Rattle.string_painting.specs.Codes.{codes_in_byte};
 ghost use Rattle.pixel_store.specs.Private.Painting.{code_number, Paints};
 
 use crate::byte::{codes_over, codes_per_byte, painted, pattern, whole_bytes};

@@ -10,7 +10,7 @@ use Rattle.sub_base.specs.declared.depth.Depth.TheVariants.{Two, Four, Eight}
 use Rattle.sub_base.specs.Depth.{bits_of as code_bits}
 use Rattle.stream_syntax.specs.PixelCodes.{bits, bits_of}
 use Rattle.stream_syntax.specs.Fields.{number_of}
-use Rattle.pixel_store.specs.Codes.{codes_in_byte, packed_code}
+use Rattle.string_painting.specs.Codes.{codes_in_byte, packed_code}
 use Rattle.code_strings.proofs.Bits.{length-bits, length-bits_of, bits-add, bits-mod, number_of-bits, bits_of-drop_bytes, drop-next}
 use Rattle.string_painting.specs.Private.Reading.{field_at}
 

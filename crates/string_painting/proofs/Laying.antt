@@ -5,7 +5,7 @@ use Rattle.std.proofs.lemmas.Bool.{cases_lt, lt-ltb, le-ltb}
 use Rattle.std.proofs.lemmas.Bool.Decides.{nat_tests}
 use Rattle.std.proofs.lemmas.List.{get_or-replicate, length-replicate, length-append, get_or_append_left, get_or-append_right}
 use Rattle.sub_base.specs.declared.depth.Depth.{Depth}
-use Rattle.pixel_store.specs.Codes.{packed_code}
+use Rattle.string_painting.specs.Codes.{packed_code}
 use Rattle.string_painting.specs.Painting.{code_after, LaysPixels}
 use Rattle.string_painting.specs.Private.Columns.{PaintsColumns}
 

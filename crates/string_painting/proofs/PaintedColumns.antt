@@ -5,7 +5,7 @@ use Rattle.std.proofs.lemmas.List.{get_or-set_same, get_or-set_other}
 use Rattle.sub_base.specs.declared.depth.Depth.{Depth}
 use Rattle.sub_base.specs.declared.depth.Depth.TheVariants.{Two, Four, Eight}
 use Rattle.sub_base.specs.Depth.{code_count}
-use Rattle.pixel_store.specs.Codes.{codes_in_byte, code_in}
+use Rattle.string_painting.specs.Codes.{codes_in_byte, code_in}
 use Rattle.string_painting.specs.Private.Packing.{ones_of, PaintsByte}
 use Rattle.string_painting.specs.Private.Columns.{PaintsColumns}
 use Rattle.string_painting.proofs.Bytes.{code_of_all}
@@ -164,3 +164,16 @@ PaintsColumns-parts region from to first last code xs ys zs ws order first_is la
         (omega arith, omega arith, omega arith, omega arith, omega arith, omega arith, omega arith, omega arith)
     spots Eight from to first last order first_is last_is differ =
         (omega arith, omega arith, omega arith, omega arith, omega arith, omega arith, omega arith, omega arith)
+
+-- a column whose code is one of its byte's
+pub PaintsColumns-one : (region : Depth) (x code byte : ℕ) (xs : List ℕ) → x < length xs * codes_in_byte region
+    → PaintsByte region (x % codes_in_byte region) (x % codes_in_byte region + 1) code
+    (get_or xs (x / codes_in_byte region) 0) byte
+    → PaintsColumns region x (x + 1) code xs (set xs (x / codes_in_byte region) byte)
+PaintsColumns-one region x code byte xs inside p =
+    let s = column_is region x in
+    let index = x / codes_in_byte region in
+    let over = x % codes_in_byte region in
+    PaintsColumns-at region _ _ x (x + 1) code xs (set xs index byte) s.0 s.1
+    (PaintsColumns-byte region index over (over + 1) code byte xs (before_bytes region x (length xs) inside)
+    (omega (arith, over_small region x)) p)

@@ -8,7 +8,7 @@ use Rattle.sub_base.specs.declared.depth.Depth.{Depth}
 use Rattle.sub_base.specs.declared.depth.Depth.TheVariants.{Two, Four, Eight}
 use Rattle.sub_base.specs.Depth.{bits_of as code_bits}
 use Rattle.stream_syntax.specs.PixelCodes.{bits_of, Code, pixel, one_zero, two_zeros, zeros, short_run, middle_run, long_run, IsCode, pixel_count, colour_of, pixels_of, spelled, ending, string_of, IsString}
-use Rattle.pixel_store.specs.Codes.{codes_in_byte}
+use Rattle.string_painting.specs.Codes.{codes_in_byte}
 use Rattle.code_strings.specs.Widths.{width_of}
 use Rattle.code_strings.proofs.Bits.{length-bits_of, bits_of-append, drop-next}
 use Rattle.code_strings.proofs.Tokens.{end_width, length-spelled, length-ending, nothing}

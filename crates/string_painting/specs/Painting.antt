@@ -5,7 +5,7 @@ use Rattle.sub_base.specs.declared.depth.Depth.TheVariants.{Two, Four, Eight}
 use Rattle.stream_syntax.specs.PixelCodes.{Code, pixels_of}
 use Rattle.stream_syntax.specs.PixelBlocks.{Part, IsNoDeeper, entries_of, mapped, table_size}
 use Rattle.stream_syntax.specs.declared.map_table.MapTable.TheVariants.{TwoToFour, TwoToEight, FourToEight}
-use Rattle.pixel_store.specs.Codes.{packed_code}
+use Rattle.string_painting.specs.Codes.{packed_code}
 use Rattle.string_painting.specs.declared.drawing.Brush.{Brush}
 
 -- the region's code for a code of a string: where the string has fewer bits a code, the entry in the bytes of the map

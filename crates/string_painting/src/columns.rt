@@ -2,10 +2,10 @@
 
 ghost use Rattle.std.specs.Prelude.{◌≡◌, ℕ, ◌+◌, ◌*◌, ◌/◌, ◌<◌, ◌≤◌, ◌⊎◌, length, min, slice_index};
 ghost use Rattle.sub_base.specs.Depth.{code_count};
-ghost use Rattle.pixel_store.specs.Codes.{codes_in_byte};
+ghost use Rattle.string_painting.specs.Codes.{codes_in_byte};
 ghost use Rattle.string_painting.specs.Private.Columns.{PaintsColumns};
 
-use crate::packing::{codes_over, codes_per_byte, painted, pattern, whole_bytes};
+use crate::packing::{codes_over, codes_per_byte, painted, painted_once, pattern, whole_bytes};
 use sub_base::Depth;
 
 // Paints some codes of one byte.
@@ -90,6 +90,5 @@ pub(crate) fn paint_column(row: &mut [u8], region: Depth, x: usize, code: u8)
     ensures { PaintsColumns region x (x + 1) code row.old row.new }
 {
     let index = whole_bytes(region, x);
-    let place = codes_over(region, x);
-    paint_in_byte(row, region, index, place, place + 1, code);
+    row[index] = painted_once(region, row[index], codes_over(region, x), code);
 }

@@ -1,5 +1,6 @@
 ghost use Rattle.std.specs.Prelude.{◌≡◌, ◌*◌, ◌^◌, ◌<◌, ◌≤◌, length, IfSome};
 ghost use Rattle.sub_base.specs.Depth.{code_count};
+ghost use Rattle.string_painting.specs.Codes.{codes_in_byte};
 ghost use Rattle.string_painting.specs.Private.Reading.{field_at};
 
 use crate::packing::{code, codes_over, whole_bytes};
@@ -11,7 +12,7 @@ use sub_base::Depth;
 pub(crate) fn field(bytes: &[u8], place: usize, depth: Depth) -> Option<u8>
     ensures value { result ≡ field_at depth bytes.now place }
     ensures inside { IfSome result
-        (λ number. (number < code_count depth) × (place < 8 * length bytes.now)) }
+        (λ number. (number < code_count depth) × (place < codes_in_byte depth * length bytes.now)) }
 {
     let index = whole_bytes(depth, place);
     if bytes.len() <= index {

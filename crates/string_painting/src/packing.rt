@@ -2,8 +2,8 @@
 
 ghost use Rattle.std.specs.Prelude.{◌≡◌, ℕ, ◌+◌, ◌-◌, ◌*◌, ◌/◌, ◌%◌, ◌^◌, ◌<◌, ◌≤◌};
 ghost use Rattle.sub_base.specs.Depth.{code_count};
-ghost use Rattle.pixel_store.specs.Codes.{codes_in_byte, code_in};
-ghost use Rattle.string_painting.specs.Private.Packing.{ones_of, cut, PaintsByte};
+ghost use Rattle.string_painting.specs.Codes.{codes_in_byte, code_in};
+ghost use Rattle.string_painting.specs.Private.Packing.{ones_of, cut, with_code, PaintsByte};
 
 use sub_base::Depth;
 
@@ -109,4 +109,28 @@ pub(crate) fn painted(depth: Depth, byte: u8, from: usize, to: usize, code: u8) 
 {
     let back = joined(depth, to, pattern(depth, code), byte);
     joined(depth, from, byte, back)
+}
+
+// The byte with a code in the place of the one that it has there: what its bits count is taken from
+// the byte, and what the new one's count is put to it.
+#[inline(always)]
+#[tactic(auto, unfolding(crate::specs::Private::Packing::with_code))]
+fn replaced(depth: Depth, byte: u8, index: usize, new: u8) -> u8
+    requires index { index < codes_in_byte depth }
+    requires code { new < code_count depth }
+    ensures { result ≡ with_code depth index new byte }
+{
+    let shift = 8 - u32::from(depth.bits()) * (index as u32 + 1);
+    let old = u32::from(code(depth, byte, index));
+    (u32::from(byte) - (old << shift) + (u32::from(new) << shift)) as u8
+}
+
+/// The byte with one code painted.
+#[inline(always)]
+pub(crate) fn painted_once(depth: Depth, byte: u8, index: usize, code: u8) -> u8
+    requires index { index < codes_in_byte depth }
+    requires code { code < code_count depth }
+    ensures { PaintsByte depth index (index + 1) code byte result }
+{
+    replaced(depth, byte, index, code)
 }

@@ -1,5 +1,6 @@
 ghost use Rattle.std.specs.Prelude.{◌≡◌, ◌+◌, ◌*◌, ◌^◌, ◌<◌, ◌≤◌, length, IfSome};
 ghost use Rattle.sub_base.specs.declared.depth.Depth.TheVariants.{Two, Four, Eight};
+ghost use Rattle.string_painting.specs.Codes.{codes_in_byte};
 ghost use Rattle.string_painting.specs.Private.Reading.{two_at, two_far_at, two_middle_at, two_long_at};
 ghost use Rattle.string_painting.specs.Private.Reading.{four_at, four_far_at, eight_at, token_at};
 ghost use Rattle.string_painting.specs.Private.Reading.{EndsWithin};
@@ -16,7 +17,7 @@ use sub_base::Depth;
 #[inline(always)]
 pub(crate) fn read_token(bytes: &[u8], place: usize, depth: Depth) -> Option<(Token, usize)>
     requires bytes { length bytes.now < 2 ^ 32 }
-    requires place { place ≤ 8 * length bytes.now }
+    requires place { place ≤ codes_in_byte depth * length bytes.now }
     ensures token { result ≡ token_at depth bytes.now place }
     ensures within { IfSome result (EndsWithin depth bytes.now (place + 1)) }
 {
@@ -31,7 +32,7 @@ pub(crate) fn read_token(bytes: &[u8], place: usize, depth: Depth) -> Option<(To
 #[tactic(auto, unfolding(crate::specs::Private::Reading::two_at))]
 fn two_bit_token(bytes: &[u8], place: usize) -> Option<(Token, usize)>
     requires bytes { length bytes.now < 2 ^ 32 }
-    requires place { place ≤ 8 * length bytes.now }
+    requires place { place ≤ codes_in_byte Two * length bytes.now }
     ensures token { result ≡ two_at bytes.now place }
     ensures within { IfSome result (EndsWithin Two bytes.now (place + 1)) }
 {
@@ -58,7 +59,7 @@ fn two_bit_token(bytes: &[u8], place: usize) -> Option<(Token, usize)>
 #[tactic(auto, unfolding(crate::specs::Private::Reading::two_far_at))]
 fn two_bit_far_token(bytes: &[u8], place: usize) -> Option<(Token, usize)>
     requires bytes { length bytes.now < 2 ^ 32 }
-    requires place { place ≤ 8 * length bytes.now }
+    requires place { place ≤ codes_in_byte Two * length bytes.now }
     ensures token { result ≡ two_far_at bytes.now place }
     ensures within { IfSome result (EndsWithin Two bytes.now place) }
 {
@@ -80,7 +81,7 @@ fn two_bit_far_token(bytes: &[u8], place: usize) -> Option<(Token, usize)>
 #[tactic(auto, unfolding(crate::specs::Private::Reading::two_middle_at))]
 fn two_bit_middle_token(bytes: &[u8], place: usize) -> Option<(Token, usize)>
     requires bytes { length bytes.now < 2 ^ 32 }
-    requires place { place ≤ 8 * length bytes.now }
+    requires place { place ≤ codes_in_byte Two * length bytes.now }
     ensures token { result ≡ two_middle_at bytes.now place }
     ensures within { IfSome result (EndsWithin Two bytes.now place) }
 {
@@ -96,7 +97,7 @@ fn two_bit_middle_token(bytes: &[u8], place: usize) -> Option<(Token, usize)>
 #[tactic(auto, unfolding(crate::specs::Private::Reading::two_long_at))]
 fn two_bit_long_token(bytes: &[u8], place: usize) -> Option<(Token, usize)>
     requires bytes { length bytes.now < 2 ^ 32 }
-    requires place { place ≤ 8 * length bytes.now }
+    requires place { place ≤ codes_in_byte Two * length bytes.now }
     ensures token { result ≡ two_long_at bytes.now place }
     ensures within { IfSome result (EndsWithin Two bytes.now place) }
 {
@@ -114,7 +115,7 @@ fn two_bit_long_token(bytes: &[u8], place: usize) -> Option<(Token, usize)>
 #[tactic(auto, unfolding(crate::specs::Private::Reading::four_at))]
 fn four_bit_token(bytes: &[u8], place: usize) -> Option<(Token, usize)>
     requires bytes { length bytes.now < 2 ^ 32 }
-    requires place { place ≤ 8 * length bytes.now }
+    requires place { place ≤ codes_in_byte Four * length bytes.now }
     ensures token { result ≡ four_at bytes.now place }
     ensures within { IfSome result (EndsWithin Four bytes.now (place + 1)) }
 {
@@ -137,7 +138,7 @@ fn four_bit_token(bytes: &[u8], place: usize) -> Option<(Token, usize)>
 #[tactic(auto, unfolding(crate::specs::Private::Reading::four_far_at))]
 fn four_bit_far_token(bytes: &[u8], place: usize, form: u8) -> Option<(Token, usize)>
     requires bytes { length bytes.now < 2 ^ 32 }
-    requires place { place ≤ 8 * length bytes.now }
+    requires place { place ≤ codes_in_byte Four * length bytes.now }
     ensures token { result ≡ four_far_at bytes.now place form }
     ensures moves { IfSome result (EndsWithin Four bytes.now place) }
 {
@@ -165,7 +166,7 @@ fn four_bit_far_token(bytes: &[u8], place: usize, form: u8) -> Option<(Token, us
 #[tactic(auto, unfolding(crate::specs::Private::Reading::eight_at))]
 fn eight_bit_token(bytes: &[u8], place: usize) -> Option<(Token, usize)>
     requires bytes { length bytes.now < 2 ^ 32 }
-    requires place { place ≤ 8 * length bytes.now }
+    requires place { place ≤ codes_in_byte Eight * length bytes.now }
     ensures token { result ≡ eight_at bytes.now place }
     ensures within { IfSome result (EndsWithin Eight bytes.now (place + 1)) }
 {

@@ -1,7 +1,7 @@
 -- Where the regions of a store are in its bytes.
 use Rattle.std.specs.Prelude.{ℕ, ◌+◌, ◌*◌, ◌/◌, ◌%◌, ◌^◌, ◌<◌, ◌≤◌, List, length, slice_index}
 use Rattle.pixel_store.specs.declared.extent.Extent.{Extent}
-use Rattle.pixel_store.specs.Codes.{codes_in_byte, code_in}
+use Rattle.string_painting.specs.Codes.{codes_in_byte, code_in}
 use Rattle.sub_base.specs.Depth.{packed_length, pixel_bytes}
 
 -- how many bytes a row takes

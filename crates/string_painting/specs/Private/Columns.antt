@@ -1,7 +1,7 @@
 -- What painting of some columns of a packed row changes.
 use Rattle.std.specs.Prelude.{◌≡◌, ℕ, ◌<◌, ◌≤◌, ◌⊎◌, List}
 use Rattle.sub_base.specs.declared.depth.Depth.{Depth}
-use Rattle.pixel_store.specs.Codes.{packed_code}
+use Rattle.string_painting.specs.Codes.{packed_code}
 
 -- columns from `from` up to `to` now have `code`, and the others what they had
 pub record PaintsColumns (region : Depth) (from to code : ℕ) (old new : List ℕ) : Type 0 where

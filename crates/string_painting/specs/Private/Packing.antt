@@ -3,7 +3,7 @@ use Rattle.std.specs.Prelude.{◌≡◌, ℕ, ◌+◌, ◌-◌, ◌*◌, ◌/◌
 use Rattle.sub_base.specs.declared.depth.Depth.{Depth}
 use Rattle.sub_base.specs.declared.depth.Depth.TheVariants.{Two, Four, Eight}
 use Rattle.sub_base.specs.Depth.{bits_of}
-use Rattle.pixel_store.specs.Codes.{codes_in_byte, code_in}
+use Rattle.string_painting.specs.Codes.{codes_in_byte, code_in}
 
 -- the byte whose codes are all 1
 abbrev pub ones_of : Depth → ℕ
@@ -16,6 +16,12 @@ unfoldable pub cut : Depth → ℕ → ℕ → ℕ → ℕ
 cut depth codes front back =
     front / 2 ^ (8 - bits_of depth * codes) * 2 ^ (8 - bits_of depth * codes)
     + back % 2 ^ (8 - bits_of depth * codes)
+
+-- the byte with one of its codes taken out, and another put in its place
+unfoldable pub with_code : Depth → ℕ → ℕ → ℕ → ℕ
+with_code depth index code byte =
+    byte - code_in depth index byte * 2 ^ (8 - bits_of depth * (index + 1))
+    + code * 2 ^ (8 - bits_of depth * (index + 1))
 
 -- codes from `from` up to `to` of the byte are now `code`, and the others as they were
 pub record PaintsByte (depth : Depth) (from to code old new : ℕ) : Type 0 where

@@ -4,7 +4,7 @@ use Rattle.std.specs.Prelude.{ℕ, ◌+◌, ◌-◌, ◌*◌, ◌/◌, ◌==◌,
 use Rattle.sub_base.specs.declared.depth.Depth.{Depth}
 use Rattle.sub_base.specs.declared.depth.Depth.TheVariants.{Two, Four, Eight}
 use Rattle.sub_base.specs.Depth.{code_count}
-use Rattle.pixel_store.specs.Codes.{codes_in_byte, packed_code}
+use Rattle.string_painting.specs.Codes.{codes_in_byte, packed_code}
 use Rattle.code_strings.specs.Reading.{◌>>=◌}
 use Rattle.code_strings.specs.declared.token.Token.{Token}
 use Rattle.code_strings.specs.declared.token.Token.TheVariants.{Pixels, End}
@@ -92,10 +92,10 @@ abbrev pub token_code : Token → ℕ
 token_code (Pixels length code) = code
 token_code End = 0
 
--- a token ends behind or at a place and not behind the last bit of the bytes, gives no more pixels than a code can, and
--- has a code of the depth
+-- a token ends behind or at a place and not behind the last field of the bytes, gives no more pixels than a code can,
+-- and has a code of the depth
 pub record EndsWithin (depth : Depth) (bytes : List ℕ) (place : ℕ) (found : Token × ℕ) : Type 0 where
   pub on : place ≤ found.1
-  pub within : found.1 ≤ 8 * length bytes
+  pub within : found.1 ≤ codes_in_byte depth * length bytes
   pub short : token_length found.0 ≤ 284
   pub narrow : token_code found.0 < code_count depth

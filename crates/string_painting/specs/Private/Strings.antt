@@ -1,5 +1,5 @@
 -- What painting of a string does, whatever string begins the bytes.
-use Rattle.std.specs.Prelude.{◌≡◌, ℕ, ◌+◌, List, ◌++◌, length}
+use Rattle.std.specs.Prelude.{◌≡◌, ℕ, ◌+◌, ◌*◌, ◌≤◌, List, ◌++◌, length}
 use Rattle.stream_syntax.specs.PixelCodes.{Code, IsString}
 use Rattle.string_painting.specs.Painting.{laid_over, LaysPixels, pixels_of_codes}
 use Rattle.string_painting.specs.declared.drawing.Brush.{Brush}
@@ -19,3 +19,10 @@ abbrev pub PaintsString : Brush → List ℕ → RowPlace → List ℕ → Paint
 PaintsString brush table place string told old new = (codes : List Code) (front rest : List ℕ)
     → string ≡ front ++ rest → IsString brush.string codes front
     → IsStringLaid brush table place codes (length front) told old new
+
+-- whatever the bytes are: no more of them are passed than there are, the column does not go back, and each bit that is
+-- passed is at most one code of at most 284 pixels
+pub record StaysNear (start size : ℕ) (told : Painted) : Type 0 where
+  pub inside : told.size ≤ size
+  pub forward : start ≤ told.x
+  pub short : told.x ≤ start + 284 * (8 * told.size)

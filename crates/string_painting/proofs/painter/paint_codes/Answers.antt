@@ -1,23 +1,26 @@
-use Rattle.std.proofs.Common.{◌∙◌, sym, ap, subst, ◌<◌, ◌≤◌, ◌++◌, Some, arith}
+use Rattle.std.proofs.Common.{◌∙◌, sym, ap, subst, ◌<◌, ◌≤◌, ◌++◌, length, Some, arith}
 use Rattle.sub_base.specs.Depth.{code_count}
 use Rattle.stream_syntax.specs.PixelCodes.{bits_of}
 use Rattle.code_strings.specs.declared.token.Token.{Token}
 use Rattle.string_painting.specs.Painting.{laid_over}
 use Rattle.string_painting.specs.Private.Reading.{token_length, token_code}
+use Rattle.string_painting.proofs.Places.{few_fields, started_within, started_far}
 use Rattle.string_painting.proofs.Strings.{at_start, at_next, at_end, at_none}
 use Rattle.string_painting.proofs.painter.paint_codes.Goals as goal
 
 pub loop-token-init : goal.loop-token-init
 loop-token-init c = record {
   within = omega arith;
-  room = omega (arith, c.requires.room);
+  room = omega (arith, few_fields c.args.brush.string (length c.args.string.now), c.requires.room);
+  forward = omega arith;
+  short = omega arith;
   walk = λ codes front behind e s.
       at_start c.args.brush.string c.args.string.now front behind codes c.args.brush.region
       (laid_over c.args.brush c.args.table.now) c.args.start.width c.args.start.x c.args.row.now e s;
 }
 
-pub returns-in-End : goal.returns-in-End
-returns-in-End c = λ codes front rest e s.
+pub returns-in-End-clause-strings : goal.returns-in-End-clause-strings
+returns-in-End-clause-strings c = λ codes front rest e s.
     let d =
     at_end c.args.brush.string c.args.string.now front rest codes c.loop-token.place c.in-Some.next
     c.args.brush.region (laid_over c.args.brush c.args.table.now) c.args.start.width c.args.start.x c.loop-token.x
@@ -36,6 +39,8 @@ loop-token-preserved c =
     record {
       within = moved.within;
       room = omega (arith, short, moved.on, moved.within, c.loop-token.invariant.room);
+      forward = omega (arith, c.loop-token.invariant.forward);
+      short = omega (arith, short, moved.on, c.loop-token.invariant.short);
       walk = λ codes front behind e s.
           at_next c.args.brush.string c.args.string.now codes (s.fill ++ bits_of behind) c.loop-token.place
           c.in-Some.next c.in-Pixels.length c.in-Pixels.code c.args.brush.region
@@ -46,9 +51,53 @@ loop-token-preserved c =
           c.lay_pixels.ensures;
     }
 
-pub returns : goal.returns
-returns c = λ codes front rest e s.
+pub returns-clause-strings : goal.returns-clause-strings
+returns-clause-strings c = λ codes front rest e s.
     absurd (at_none c.args.brush.string c.args.string.now codes (s.fill ++ bits_of rest) c.loop-token.place
     c.args.brush.region (laid_over c.args.brush c.args.table.now) c.args.start.width c.args.start.x c.loop-token.x
     c.args.row.now c.loop-token.row (c.loop-token.invariant.walk codes front rest e s)
     (sym c.read_token.ensures.token ∙ c.in_default.is))
+
+pub returns-in-End-clause-near : goal.returns-in-End-clause-near
+returns-in-End-clause-near c =
+    let moved = c.in-Some.ensures.within in
+    let depth = c.args.brush.string in
+    record {
+      inside =
+          omega (
+            arith,
+            c.started_bytes.ensures,
+            started_within depth c.in-Some.next (length c.args.string.now) moved.within,
+          );
+      forward = c.loop-token.invariant.forward;
+      short =
+          omega (
+            arith,
+            c.started_bytes.ensures,
+            started_far depth c.in-Some.next,
+            moved.on,
+            c.loop-token.invariant.short,
+          );
+    }
+
+pub returns-clause-near : goal.returns-clause-near
+returns-clause-near c = record {
+  inside = omega arith;
+  forward = c.loop-token.invariant.forward;
+  short =
+      omega (
+        arith,
+        c.loop-token.invariant.within,
+        few_fields c.args.brush.string (length c.args.string.now),
+        c.loop-token.invariant.short,
+      );
+}
+
+pub started_bytes-requires : goal.started_bytes-requires
+started_bytes-requires c =
+    omega (
+      arith,
+      c.in-Some.ensures.within.within,
+      few_fields c.args.brush.string (length c.args.string.now),
+      c.requires.room,
+    )
