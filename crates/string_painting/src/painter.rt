@@ -3,9 +3,9 @@
 ghost use Rattle.std.specs.Prelude.{◌≡◌, ℕ, ◌+◌, ◌*◌, ◌^◌, ◌<◌, ◌≤◌, List, ◌++◌, length};
 ghost use Rattle.sub_base.specs.Depth.{code_count};
 ghost use Rattle.stream_syntax.specs.PixelCodes.{Code, IsString};
-ghost use Rattle.string_painting.specs.Codes.{codes_in_byte};
+ghost use Rattle.string_painting.specs.Codes.{codes_in_byte, packed_code};
 ghost use Rattle.string_painting.specs.Painting.{IsMapTable, laid_over, LaysPixels, pixels_of_codes};
-ghost use Rattle.string_painting.specs.Private.Strings.{PaintsString, StaysNear};
+ghost use Rattle.string_painting.specs.Private.Strings.{PaintsString};
 
 use crate::drawing::{Brush, RowPlace, lay_pixels};
 use crate::packing::started_bytes;
@@ -46,6 +46,8 @@ pub fn paint_string(
     ensures column { (codes : List Code) (front rest : List ℕ) → string.now ≡ front ++ rest
         → IsString brush.string codes front
         → result.x ≡ place.x + length (pixels_of_codes brush.string codes) }
+    ensures beside { (x : ℕ) → place.width ≤ x
+        → packed_code brush.region row.new x ≡ packed_code brush.region row.old x }
     ensures within { result.size ≤ length string.now }
     ensures forward { place.x ≤ result.x }
     ensures short { result.x ≤ place.x + 284 * (8 * result.size) }
@@ -64,8 +66,7 @@ fn paint_at_depths(
     requires width { place.width ≤ length row.old * codes_in_byte brush.region }
     requires table { IsMapTable brush table.now }
     requires room { place.x + 284 * (8 * length string.now) < 2 ^ 32 }
-    ensures strings { PaintsString brush table.now place string.now result row.old row.new }
-    ensures near { StaysNear place.x (length string.now) result }
+    ensures { PaintsString brush table.now place string.now result row.old row.new }
 {
     match (brush.string, brush.region) {
         (Depth::Two, Depth::Two) => {
@@ -109,8 +110,7 @@ fn paint_codes(
     requires width { start.width ≤ length row.old * codes_in_byte brush.region }
     requires table { IsMapTable brush table.now }
     requires room { start.x + 284 * (8 * length string.now) < 2 ^ 32 }
-    ensures strings { PaintsString brush table.now start string.now result row.old row.new }
-    ensures near { StaysNear start.x (length string.now) result }
+    ensures { PaintsString brush table.now start string.now result row.old row.new }
 {
     let mut x = start.x;
     let mut place = 0;

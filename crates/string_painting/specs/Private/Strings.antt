@@ -1,6 +1,7 @@
 -- What painting of a string does, whatever string begins the bytes.
 use Rattle.std.specs.Prelude.{◌≡◌, ℕ, ◌+◌, ◌*◌, ◌≤◌, List, ◌++◌, length}
 use Rattle.stream_syntax.specs.PixelCodes.{Code, IsString}
+use Rattle.string_painting.specs.Codes.{packed_code}
 use Rattle.string_painting.specs.Painting.{laid_over, LaysPixels, pixels_of_codes}
 use Rattle.string_painting.specs.declared.drawing.Brush.{Brush}
 use Rattle.string_painting.specs.declared.drawing.RowPlace.{RowPlace}
@@ -14,15 +15,14 @@ pub record IsStringLaid (brush : Brush) (table : List ℕ) (place : RowPlace) (c
   pub size_is : told.size ≡ size
   pub column_is : told.x ≡ place.x + length (pixels_of_codes brush.string codes)
 
--- whatever string begins the bytes was painted
-abbrev pub PaintsString : Brush → List ℕ → RowPlace → List ℕ → Painted → List ℕ → List ℕ → Type 0
-PaintsString brush table place string told old new = (codes : List Code) (front rest : List ℕ)
-    → string ≡ front ++ rest → IsString brush.string codes front
-    → IsStringLaid brush table place codes (length front) told old new
-
--- whatever the bytes are: no more of them are passed than there are, the column does not go back, and each bit that is
--- passed is at most one code of at most 284 pixels
-pub record StaysNear (start size : ℕ) (told : Painted) : Type 0 where
-  pub inside : told.size ≤ size
-  pub forward : start ≤ told.x
-  pub short : told.x ≤ start + 284 * (8 * told.size)
+-- what was painted: whatever string begins the bytes; and whatever the bytes are, nothing behind the region's columns, no
+-- more bytes are passed than there are, the column does not go back, and each bit that is passed is at most one code of
+-- at most 284 pixels
+pub record PaintsString (brush : Brush) (table : List ℕ) (place : RowPlace) (string : List ℕ) (told : Painted)
+    (old new : List ℕ) : Type 0 where
+  pub whole : (codes : List Code) (front rest : List ℕ) → string ≡ front ++ rest → IsString brush.string codes front
+      → IsStringLaid brush table place codes (length front) told old new
+  pub beside : (x : ℕ) → place.width ≤ x → packed_code brush.region new x ≡ packed_code brush.region old x
+  pub inside : told.size ≤ length string
+  pub forward : place.x ≤ told.x
+  pub short : told.x ≤ place.x + 284 * (8 * told.size)

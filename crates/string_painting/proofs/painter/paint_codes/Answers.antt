@@ -1,4 +1,4 @@
-use Rattle.std.proofs.Common.{◌∙◌, sym, ap, subst, ◌<◌, ◌≤◌, ◌++◌, length, Some, arith}
+use Rattle.std.proofs.Common.{◌∙◌, refl, sym, ap, subst, ◌<◌, ◌≤◌, ◌++◌, length, Some, arith}
 use Rattle.sub_base.specs.Depth.{code_count}
 use Rattle.stream_syntax.specs.PixelCodes.{bits_of}
 use Rattle.code_strings.specs.declared.token.Token.{Token}
@@ -12,6 +12,7 @@ pub loop-token-init : goal.loop-token-init
 loop-token-init c = record {
   within = omega arith;
   room = omega (arith, few_fields c.args.brush.string (length c.args.string.now), c.requires.room);
+  beside = λ x behind. refl;
   forward = omega arith;
   short = omega arith;
   walk = λ codes front behind e s.
@@ -19,50 +20,20 @@ loop-token-init c = record {
       (laid_over c.args.brush c.args.table.now) c.args.start.width c.args.start.x c.args.row.now e s;
 }
 
-pub returns-in-End-clause-strings : goal.returns-in-End-clause-strings
-returns-in-End-clause-strings c = λ codes front rest e s.
-    let d =
-    at_end c.args.brush.string c.args.string.now front rest codes c.loop-token.place c.in-Some.next
-    c.args.brush.region (laid_over c.args.brush c.args.table.now) c.args.start.width c.args.start.x c.loop-token.x
-    c.args.row.now c.loop-token.row s (c.loop-token.invariant.walk codes front rest e s)
-    (sym c.read_token.ensures.token ∙ c.in-Some.is ∙ ap (λ (t : Token). Some (t, c.in-Some.next)) c.in-End.is) in
-    record { painted = d.painted; size_is = c.started_bytes.ensures ∙ d.size; column_is = d.column }
-
-pub lay_pixels-requires-clause-code : goal.lay_pixels-requires-clause-code
-lay_pixels-requires-clause-code c =
-    subst (λ (t : Token). token_code t < code_count c.args.brush.string) c.in-Pixels.is c.in-Some.ensures.within.narrow
-
-pub loop-token-preserved : goal.loop-token-preserved
-loop-token-preserved c =
-    let moved = c.in-Some.ensures.within in
-    let short : c.in-Pixels.length ≤ 284 = subst (λ (t : Token). token_length t ≤ 284) c.in-Pixels.is moved.short in
-    record {
-      within = moved.within;
-      room = omega (arith, short, moved.on, moved.within, c.loop-token.invariant.room);
-      forward = omega (arith, c.loop-token.invariant.forward);
-      short = omega (arith, short, moved.on, c.loop-token.invariant.short);
-      walk = λ codes front behind e s.
-          at_next c.args.brush.string c.args.string.now codes (s.fill ++ bits_of behind) c.loop-token.place
-          c.in-Some.next c.in-Pixels.length c.in-Pixels.code c.args.brush.region
-          (laid_over c.args.brush c.args.table.now) c.args.start.width c.args.start.x c.loop-token.x c.args.row.now
-          c.loop-token.row c.lay_pixels.new.row (c.loop-token.invariant.walk codes front behind e s)
-          (sym c.read_token.ensures.token ∙ c.in-Some.is
-          ∙ ap (λ (t : Token). Some (t, c.in-Some.next)) c.in-Pixels.is)
-          c.lay_pixels.ensures;
-    }
-
-pub returns-clause-strings : goal.returns-clause-strings
-returns-clause-strings c = λ codes front rest e s.
-    absurd (at_none c.args.brush.string c.args.string.now codes (s.fill ++ bits_of rest) c.loop-token.place
-    c.args.brush.region (laid_over c.args.brush c.args.table.now) c.args.start.width c.args.start.x c.loop-token.x
-    c.args.row.now c.loop-token.row (c.loop-token.invariant.walk codes front rest e s)
-    (sym c.read_token.ensures.token ∙ c.in_default.is))
-
-pub returns-in-End-clause-near : goal.returns-in-End-clause-near
-returns-in-End-clause-near c =
+pub returns-in-End : goal.returns-in-End
+returns-in-End c =
     let moved = c.in-Some.ensures.within in
     let depth = c.args.brush.string in
     record {
+      whole = λ codes front rest e s.
+          let d =
+          at_end c.args.brush.string c.args.string.now front rest codes c.loop-token.place c.in-Some.next
+          c.args.brush.region (laid_over c.args.brush c.args.table.now) c.args.start.width c.args.start.x
+          c.loop-token.x c.args.row.now c.loop-token.row s (c.loop-token.invariant.walk codes front rest e s)
+          (sym c.read_token.ensures.token ∙ c.in-Some.is
+          ∙ ap (λ (t : Token). Some (t, c.in-Some.next)) c.in-End.is) in
+          record { painted = d.painted; size_is = c.started_bytes.ensures ∙ d.size; column_is = d.column };
+      beside = c.loop-token.invariant.beside;
       inside =
           omega (
             arith,
@@ -80,8 +51,38 @@ returns-in-End-clause-near c =
           );
     }
 
-pub returns-clause-near : goal.returns-clause-near
-returns-clause-near c = record {
+pub lay_pixels-requires-clause-code : goal.lay_pixels-requires-clause-code
+lay_pixels-requires-clause-code c =
+    subst (λ (t : Token). token_code t < code_count c.args.brush.string) c.in-Pixels.is c.in-Some.ensures.within.narrow
+
+pub loop-token-preserved : goal.loop-token-preserved
+loop-token-preserved c =
+    let moved = c.in-Some.ensures.within in
+    let short : c.in-Pixels.length ≤ 284 = subst (λ (t : Token). token_length t ≤ 284) c.in-Pixels.is moved.short in
+    record {
+      within = moved.within;
+      room = omega (arith, short, moved.on, moved.within, c.loop-token.invariant.room);
+      beside = λ x behind. c.lay_pixels.ensures.beside x behind ∙ c.loop-token.invariant.beside x behind;
+      forward = omega (arith, c.loop-token.invariant.forward);
+      short = omega (arith, short, moved.on, c.loop-token.invariant.short);
+      walk = λ codes front behind e s.
+          at_next c.args.brush.string c.args.string.now codes (s.fill ++ bits_of behind) c.loop-token.place
+          c.in-Some.next c.in-Pixels.length c.in-Pixels.code c.args.brush.region
+          (laid_over c.args.brush c.args.table.now) c.args.start.width c.args.start.x c.loop-token.x c.args.row.now
+          c.loop-token.row c.lay_pixels.new.row (c.loop-token.invariant.walk codes front behind e s)
+          (sym c.read_token.ensures.token ∙ c.in-Some.is
+          ∙ ap (λ (t : Token). Some (t, c.in-Some.next)) c.in-Pixels.is)
+          c.lay_pixels.ensures;
+    }
+
+pub returns : goal.returns
+returns c = record {
+  whole = λ codes front rest e s.
+      absurd (at_none c.args.brush.string c.args.string.now codes (s.fill ++ bits_of rest) c.loop-token.place
+      c.args.brush.region (laid_over c.args.brush c.args.table.now) c.args.start.width c.args.start.x c.loop-token.x
+      c.args.row.now c.loop-token.row (c.loop-token.invariant.walk codes front rest e s)
+      (sym c.read_token.ensures.token ∙ c.in_default.is));
+  beside = c.loop-token.invariant.beside;
   inside = omega arith;
   forward = c.loop-token.invariant.forward;
   short =
