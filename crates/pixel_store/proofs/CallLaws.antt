@@ -1,10 +1,15 @@
 -- Each call takes a store that is one after some calls to a store that is one after these and that call.
-use Rattle.std.proofs.Common.{◌≡◌, ◌≢◌, ◌∙◌, refl, sym, ap, subst, inl, inr, ℕ, ◌+◌, ◌<◌, ◌≤◌, ◌⊎◌, Bool, true, false, cond, List, ◌∷◌, length, filter, find, Some, arith}
+use Rattle.std.proofs.Common.{◌≡◌, ◌≢◌, ◌∙◌, refl, sym, ap, subst, inl, inr, ℕ, ◌+◌, ◌-◌, ◌<◌, ◌≤◌, ◌⊎◌, Bool, true, false, cond, ltb, List, ◌∷◌, length, filter, find, get_or, map, Option, None, Some, arith}
+use Rattle.std.specs.Prelude.{if◌then◌else◌, ◌&&◌, ◌==◌, unwrap_or}
 use Rattle.std.proofs.lemmas.Bool.{cases_eq, cases_lt, eq-eqb, ne_eqb, lt-ltb, le-ltb, le-leb, lt-leb}
+use Rattle.std.proofs.lemmas.List.{get_or-map, get_or_past, length-map}
 use Rattle.std.proofs.lemmas.List.Sums.{sum_by-cons}
 use Rattle.sub_base.specs.declared.depth.Depth.{Depth}
-use Rattle.pixel_store.specs.Regions.{StoredRegion, Regions, IsPlaced, region_at, code_of, PlacesOne, KeepsOthers, IsFilled, IsRunPainted}
-use Rattle.pixel_store.specs.Calls.{StoreCall, Place, Fill, PaintRun, covers, code_given, last_write, is_place, is_place_of, bytes_taken, placing, IsAfter}
+use Rattle.string_painting.specs.Painting.{laid_over, code_after, region_code}
+use Rattle.string_painting.specs.declared.drawing.Brush.{Brush}
+use Rattle.string_painting.proofs.Laying.{before_start, under, behind}
+use Rattle.pixel_store.specs.Regions.{StoredRegion, Regions, IsPlaced, region_at, code_of, PlacesOne, KeepsOthers, IsFilled, IsRunPainted, IsStringPainted}
+use Rattle.pixel_store.specs.Calls.{StoreCall, Place, Fill, PaintRun, PaintString, shown_code, string_code, covers, code_given, last_write, is_place, is_place_of, bytes_taken, placing, IsAfter}
 
 found : (p : StoreCall → Bool) (call : StoreCall) (past : List StoreCall) → p call ≡ true
     → find p (call ∷ past) ≡ Some call
@@ -16,12 +21,12 @@ passed p call past miss = ap (λ (b : Bool). cond b (Some call) (find p past)) m
 
 -- the last write is that of the call, or that of the calls before
 written : (slot x y : ℕ) (call : StoreCall) (past : List StoreCall) → covers slot x y call ≡ true
-    → last_write slot x y (call ∷ past) ≡ code_given (Some call)
-written slot x y call past hit = ap code_given (found (covers slot x y) call past hit)
+    → last_write slot x y (call ∷ past) ≡ code_given x (Some call)
+written slot x y call past hit = ap (code_given x) (found (covers slot x y) call past hit)
 
 unwritten : (slot x y : ℕ) (call : StoreCall) (past : List StoreCall) → covers slot x y call ≡ false
     → last_write slot x y (call ∷ past) ≡ last_write slot x y past
-unwritten slot x y call past miss = ap code_given (passed (covers slot x y) call past miss)
+unwritten slot x y call past miss = ap (code_given x) (passed (covers slot x y) call past miss)
 
 -- the sides of each region are kept
 sides : (slot : ℕ) (old new : Regions) → KeepsOthers slot old new → (k : ℕ) →
@@ -122,6 +127,79 @@ run_after slot left row count code old new keeps painted past after =
       other x y is_in column below where_it_is miss =
           painted.outside x y column below where_it_is ∙ after.codes slot x y is_in column below
           ∙ sym (unwritten slot x y (PaintRun slot left row count code) past miss)
+
+-- what a string gives to a column: nothing before it, what its pixel there gives, nothing behind it
+given_before : (left : ℕ) (codes : List (Option ℕ)) (x : ℕ) → x < left → string_code left codes x ≡ None
+given_before left codes x h = let t : ltb x left ≡ true = lt-ltb _ _ h in rw t refl
+
+given_on : (left : ℕ) (codes : List (Option ℕ)) (x : ℕ) → left ≤ x
+    → string_code left codes x ≡ get_or codes (x - left) None
+given_on left codes x h = let t : ltb x left ≡ false = le-ltb _ _ h in rw t refl
+
+-- a pixel is laid over a code: the code that it gives, and where it gives none the code that was there
+shown_over : (seen : Bool) (old code : ℕ)
+    → (if seen then old else code) ≡ unwrap_or (if seen then None else Some code) old
+shown_over true old code = refl
+shown_over false old code = refl
+
+-- the code in a column after a string: what it gives there, and where it gives nothing the code that was there
+given_after : (brush : Brush) (table : List ℕ) (left : ℕ) (pixels : List ℕ) (x old : ℕ)
+    → code_after (laid_over brush table) left pixels x old
+    ≡ unwrap_or (string_code left (map (shown_code brush table) pixels) x) old
+given_after brush table left pixels x old = elim (cases_lt x left) [
+  | inl before ↦ before_start (laid_over brush table) left pixels x old before
+      ∙ sym (ap kept (given_before left (map (shown_code brush table) pixels) x before))
+  | inr on ↦ elim (cases_lt x (left + length pixels)) [
+    | inl inside ↦ under (laid_over brush table) left pixels x old on inside
+        ∙ shown_over (brush.see_through && (get_or pixels (x - left) 0 == 1)) old
+        (region_code brush table (get_or pixels (x - left) 0))
+        ∙ sym (ap kept (given_on left (map (shown_code brush table) pixels) x on
+        ∙ get_or-map (shown_code brush table) pixels (x - left) 0 None (omega (arith, on, inside))))
+    | inr past ↦ behind (laid_over brush table) left pixels x old past
+        ∙ sym (ap kept (given_on left (map (shown_code brush table) pixels) x on
+        ∙ get_or_past (map (shown_code brush table) pixels) (x - left) None
+        (omega (arith, past, length-map pixels (shown_code brush table)))))
+  ]
+] where
+  kept : Option ℕ → ℕ
+  kept o = unwrap_or o old
+
+pub string_after : (slot left row : ℕ) (brush : Brush) (table pixels : List ℕ) (old new : Regions)
+    → KeepsOthers slot old new
+    → IsStringPainted left row (laid_over brush table) pixels (region_at old slot) (region_at new slot)
+    → (past : List StoreCall) → IsAfter past old
+    → IsAfter (PaintString slot left row (map (shown_code brush table) pixels) ∷ past) new
+string_after slot left row brush table pixels old new keeps painted past after =
+    changed_after slot old new keeps call past after refl (λ k. refl) refl
+    (λ k x y ne. rw (ne_eqb slot k (λ e. ne (sym e))) refl)
+    (λ x y is_in column below. elim (cases_eq y row) [
+      | inl e ↦ by_given x y e is_in column below (string_code left codes x) refl
+      | inr ne ↦ painted.elsewhere x y column below ne ∙ after.codes slot x y is_in column below
+          ∙ sym (unwritten slot x y call past (rw (eq-eqb slot slot refl, ne_eqb row y (λ e. ne (sym e))) refl))
+    ]) where
+      codes : List (Option ℕ)
+      codes = map (shown_code brush table) pixels
+
+      call : StoreCall
+      call = PaintString slot left row codes
+
+      by_given : (x y : ℕ) → y ≡ row → IsPlaced old slot → x < (region_at old slot).width
+          → y < (region_at old slot).height → (given : Option ℕ) → string_code left codes x ≡ given
+          → code_of (region_at new slot) x y ≡ last_write slot x y (call ∷ past)
+      by_given x y e is_in column below None is =
+          subst (λ (m : ℕ). code_of (region_at new slot) x m ≡ code_of (region_at old slot) x m) (sym e)
+          (painted.here x column (subst (λ (m : ℕ). m < (region_at old slot).height) e below)
+          ∙ given_after brush table left pixels x (code_of (region_at old slot) x row)
+          ∙ ap (λ (o : Option ℕ). unwrap_or o (code_of (region_at old slot) x row)) is)
+          ∙ after.codes slot x y is_in column below
+          ∙ sym (unwritten slot x y call past (rw (eq-eqb slot slot refl, eq-eqb row y (sym e), is) refl))
+      by_given x y e is_in column below (Some code) is =
+          subst (λ (m : ℕ). code_of (region_at new slot) x m ≡ code) (sym e)
+          (painted.here x column (subst (λ (m : ℕ). m < (region_at old slot).height) e below)
+          ∙ given_after brush table left pixels x (code_of (region_at old slot) x row)
+          ∙ ap (λ (o : Option ℕ). unwrap_or o (code_of (region_at old slot) x row)) is)
+          ∙ sym (written slot x y call past (rw (eq-eqb slot slot refl, eq-eqb row y (sym e), is) refl)
+          ∙ ap (λ (o : Option ℕ). unwrap_or o 0) is)
 
 pub place_after : (width height : ℕ) (depth : Depth) (slot : ℕ) (old new : Regions)
     → PlacesOne width height depth slot old new →

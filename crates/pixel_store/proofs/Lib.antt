@@ -2,6 +2,7 @@ pub mod Fields
 pub mod Bytes
 pub mod Spans
 pub mod Rows
+pub mod LentRows
 pub mod Slots
 pub mod Placing
 pub mod CallLaws

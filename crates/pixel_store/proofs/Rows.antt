@@ -92,13 +92,14 @@ row_before stride row later lt =
     let split : row + 1 + gap ≡ later = omega arith in
     subst (λ (n : ℕ). row * stride + stride ≤ n * stride) split (grind arith)
 
--- a painted row leaves the other rows
-pub other_row : (extent : Extent) (y from to code x row : ℕ) (xs ys : List ℕ)
-    → PaintsRow extent y from to code xs ys → x < room_of extent →
+-- what changes bytes of one row leaves the other rows
+pub other_row : (extent : Extent) (y x row : ℕ) (xs ys : List ℕ)
+    → ((i : ℕ) → (i < row_start extent y) ⊎ (row_start extent y + stride_of extent ≤ i)
+    → get_or ys i 0 ≡ get_or xs i 0) → x < room_of extent →
     (row < y) ⊎ (y < row) → pixel ys extent x row ≡ pixel xs extent x row
-other_row extent y from to code x row xs ys p column where_it_is =
+other_row extent y x row xs ys untouched column where_it_is =
     ap (code_in extent.depth (x % codes_in_byte extent.depth))
-    (p.untouched (row_start extent row + x / codes_in_byte extent.depth) (elim where_it_is [
+    (untouched (row_start extent row + x / codes_in_byte extent.depth) (elim where_it_is [
       | inl above ↦ inl (omega (arith, column-below extent x column, row_before (stride_of extent) row y above))
       | inr under ↦ inr (omega (arith, row_before (stride_of extent) y row under))
     ]))
@@ -116,7 +117,7 @@ pub Fills-more : (extent : Extent) (n code : ℕ) (xs ys zs : List ℕ) → n < 
     PaintsRow extent n 0 extent.width code ys zs → Fills extent (n + 1) code xs zs
 Fills-more extent n code xs ys zs more f p = record {
   covered = λ x y column row. elim (cases_lt y n) [
-    | inl above ↦ other_row extent n 0 extent.width code x y ys zs p (omega (arith, column, wide_enough extent))
+    | inl above ↦ other_row extent n x y ys zs p.untouched (omega (arith, column, wide_enough extent))
         (inl above) ∙ f.covered x y column above
     | inr not_above ↦
         let same : n ≡ y = omega arith in
@@ -126,10 +127,10 @@ Fills-more extent n code xs ys zs more f p = record {
     | inl same ↦
         subst (λ (k : ℕ). pixel zs extent x k ≡ pixel ys extent x k) (sym same) (p.beside x column (inr right))
         ∙ f.beside x y column right row
-    | inr differ ↦ other_row extent n 0 extent.width code x y ys zs p column differ ∙ f.beside x y column right row
+    | inr differ ↦ other_row extent n x y ys zs p.untouched column differ ∙ f.beside x y column right row
   ];
   below = λ x y column under row.
-      other_row extent n 0 extent.width code x y ys zs p column (inr (omega arith))
+      other_row extent n x y ys zs p.untouched column (inr (omega arith))
       ∙ f.below x y column (omega arith) row;
   untouched = λ i where_it_is.
       p.untouched i (elim where_it_is [

@@ -7,9 +7,10 @@ use Rattle.std.proofs.Math.ListN.{get_or-eq_default}
 use Rattle.pixel_store.specs.declared.extent.Extent.{Extent}
 use Rattle.sub_base.specs.declared.depth.Depth.TheVariants.{Two}
 use Rattle.string_painting.specs.Codes.{codes_in_byte, code_in}
+use Rattle.string_painting.specs.Painting.{code_after}
 use Rattle.pixel_store.specs.Private.Extents.{stride_of, room_of, size_of, row_start, pixel, Fits}
-use Rattle.pixel_store.specs.Private.Painting.{PaintsRow, Fills}
-use Rattle.pixel_store.specs.Regions.{StoredRegion, code_of, row_of, blank, region_at, KeepsOthers, IsRunPainted, IsFilled, IsPackedRow, need_in}
+use Rattle.pixel_store.specs.Private.Painting.{PaintsRow, KeepsRows, LaysRow, Fills}
+use Rattle.pixel_store.specs.Regions.{StoredRegion, code_of, row_of, blank, region_at, KeepsOthers, IsRunPainted, IsStringPainted, IsFilled, IsPackedRow, need_in}
 use Rattle.pixel_store.specs.Private.Stores.{region_in, regions_in, no_extent, extent_at, Adjoin, IsTidy, IsStore}
 use Rattle.pixel_store.proofs.Rows.{row_inside, column-below, wide_enough, other_row}
 
@@ -122,7 +123,7 @@ pub still_tidy : (p : Extent) (y from to code : ℕ) (xs ys : List ℕ) → to �
 still_tidy p y from to code xs ys short paints tidy x row right column below = elim (cases_order row y) [
   | inl e ↦ subst (λ (k : ℕ). pixel ys p x k ≡ pixel xs p x k) (sym e)
       (paints.beside x column (inr (omega arith))) ∙ tidy x row right column below
-  | inr differ ↦ other_row p y from to code x row xs ys paints column differ ∙ tidy x row right column below
+  | inr differ ↦ other_row p y x row xs ys paints.untouched column differ ∙ tidy x row right column below
 ]
 
 pub run_painted : (p : Extent) (x y count from to code : ℕ) (xs ys : List ℕ) → y < p.height
@@ -143,9 +144,23 @@ run_painted p x y count from to code xs ys row from_is to_is paints = record {
                 | inr r ↦ inr (omega (arith, r, to_is))
               ]
             ]))
-        | inr differ ↦ other_row p y from to code column at xs ys paints wide differ
+        | inr differ ↦ other_row p y column at xs ys paints.untouched wide differ
       ] in
       code_of-region ys p column at wide below ∙ same ∙ sym (code_of-region xs p column at wide below);
+}
+
+-- pixels that were laid over a row
+pub string_painted : (p : Extent) (y start : ℕ) (over : ℕ → ℕ → ℕ) (pixels xs ys : List ℕ) → KeepsRows p y xs ys
+    → LaysRow p y over start pixels xs ys → IsStringPainted start y over pixels (region_in xs p) (region_in ys p)
+string_painted p y start over pixels xs ys keeps lays = record {
+  here = λ x column below.
+      let inside : x < room_of p = omega (arith, column, wide_enough p) in
+      code_of-region ys p x y inside below ∙ lays x column below
+      ∙ ap (code_after over start pixels x) (sym (code_of-region xs p x y inside below));
+  elsewhere = λ x row column below differs.
+      let inside : x < room_of p = omega (arith, column, wide_enough p) in
+      code_of-region ys p x row inside below ∙ keeps.others x row inside below differs
+      ∙ sym (code_of-region xs p x row inside below);
 }
 
 pub fill_painted : (p : Extent) (code : ℕ) (xs ys : List ℕ) → Fills p p.height code xs ys

@@ -7,11 +7,11 @@ use Rattle.sub_base.specs.declared.depth.Depth.TheVariants.{Two}
 use Rattle.pixel_store.specs.declared.extent.Extent.{Extent}
 use Rattle.string_painting.specs.Codes.{codes_in_byte, code_in}
 use Rattle.pixel_store.specs.Private.Extents.{stride_of, room_of, size_of, row_start, pixel, Fits}
-use Rattle.pixel_store.specs.Private.Painting.{PaintsRow, Fills}
-use Rattle.pixel_store.specs.Regions.{StoredRegion, Regions, IsPlaced, region_at, code_of, blank, need_in, with_region, PlacesOne, KeepsOthers, IsFilled, IsRunPainted, IsPackedRow}
+use Rattle.pixel_store.specs.Private.Painting.{PaintsRow, KeepsRows, LaysRow, Fills}
+use Rattle.pixel_store.specs.Regions.{StoredRegion, Regions, IsPlaced, region_at, code_of, blank, need_in, with_region, PlacesOne, KeepsOthers, IsFilled, IsRunPainted, IsStringPainted, IsPackedRow}
 use Rattle.pixel_store.specs.Private.Stores.{region_in, regions_in, extent_at, IsTidy, IsStore}
 use Rattle.pixel_store.proofs.Rows.{column-below, wide_enough, in_byte}
-use Rattle.pixel_store.proofs.Slots.{slot_fits, region_at_is, code_of-region, row_of-region, packed_row_is, row_untouched, still_tidy, run_painted, fill_painted, fill_tidy, needs_adjoin, window_at, changed_store, changed_others}
+use Rattle.pixel_store.proofs.Slots.{slot_fits, region_at_is, code_of-region, row_of-region, packed_row_is, row_untouched, still_tidy, run_painted, string_painted, fill_painted, fill_tidy, needs_adjoin, window_at, changed_store, changed_others}
 use Rattle.pixel_store.proofs.Placing.{zero_code}
 use Rattle.sub_base.specs.Depth.{pixel_bytes}
 
@@ -102,6 +102,25 @@ module _ (xs : List ℕ) (used : ℕ) (extents : List Extent) (store : Regions)
             (subst (IsRunPainted x y count code (region_in xs p)) (region_now ys same untouched tidy)
             (run_painted p x y count from to code xs ys row from_is to_is paints)),
       )
+
+  -- columns of one row may have changed
+  module _ (ys : List ℕ) (y : ℕ) (same : length ys ≡ length xs) (keeps : KeepsRows p y xs ys) where
+    row_tidy : IsTidy ys p
+    row_tidy x row right column below = keeps.beside x row right column below ∙ tidy_here x row right column below
+
+    pub row_store : IsStore ys used extents
+    row_store = still_store ys same keeps.untouched row_tidy
+
+    pub row_others : KeepsOthers slot store (regions_in ys used extents)
+    row_others = others_kept ys same keeps.untouched row_tidy
+
+    pub row_painted : (start : ℕ) (over : ℕ → ℕ → ℕ) (pixels : List ℕ) → LaysRow p y over start pixels xs ys
+        → IsStringPainted start y over pixels (region_at store slot) (region_at (regions_in ys used extents) slot)
+    row_painted start over pixels lays =
+        subst (λ (r : StoredRegion).
+        IsStringPainted start y over pixels r (region_at (regions_in ys used extents) slot)) (sym region_is)
+        (subst (IsStringPainted start y over pixels (region_in xs p)) (region_now ys same keeps.untouched row_tidy)
+        (string_painted p y start over pixels xs ys keeps lays))
 
 -- what is free and what the regions need is the whole store
 pub all_bytes : (xs : List ℕ) (used : ℕ) (extents : List Extent) (store : Regions)

@@ -3,6 +3,7 @@ use Rattle.std.specs.Prelude.{◌≡◌, ◌≢◌, ℕ, ◌+◌, ◌-◌, ◌*�
 use Rattle.sub_base.specs.declared.depth.Depth.{Depth}
 use Rattle.sub_base.specs.declared.depth.Depth.TheVariants.{Two}
 use Rattle.string_painting.specs.Codes.{packed_code, codes_in_byte}
+use Rattle.string_painting.specs.Painting.{code_after}
 use Rattle.sub_base.specs.Depth.{packed_length, pixel_bytes}
 
 -- a region: its sides in pixels, its depth, and its packed rows, one after another
@@ -95,6 +96,13 @@ pub record IsRunPainted (left row count code : ℕ) (old new : StoredRegion) : T
   pub outside : (x y : ℕ) → x < old.width → y < old.height → (y ≢ row)
       ⊎ ((x < left) ⊎ (left + count ≤ x)) →
       code_of new x y ≡ code_of old x y
+
+-- the pixels were laid over row `row` from column `left` on, as far as the region has them, and all other rows are as
+-- they were; `over` says what a code becomes under a pixel
+pub record IsStringPainted (left row : ℕ) (over : ℕ → ℕ → ℕ) (pixels : List ℕ) (old new : StoredRegion) : Type 0 where
+  pub here : (x : ℕ) → x < old.width → row < old.height
+      → code_of new x row ≡ code_after over left pixels x (code_of old x row)
+  pub elsewhere : (x y : ℕ) → x < old.width → y < old.height → y ≢ row → code_of new x y ≡ code_of old x y
 
 -- packed bytes have the codes of a row of the region, and behind the last of them zeros
 pub record IsPackedRow (region : StoredRegion) (y : ℕ) (bytes : List ℕ) : Type 0 where

@@ -33,8 +33,8 @@ pub(crate) fn size(extent: Extent) -> usize
     stride(extent) * usize::from(extent.height)
 }
 
-// The first byte of a row.
-fn row_start(extent: Extent, y: u16) -> usize
+/// The first byte of a row.
+pub(crate) fn row_start(extent: Extent, y: u16) -> usize
     requires { start_of extent y < 2 ^ 64 }
     ensures { result ≡ start_of extent y }
 {

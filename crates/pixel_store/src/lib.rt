@@ -7,5 +7,7 @@ mod byte;
 mod extent;
 mod span;
 mod store;
+mod string_rows;
 
 pub use store::{Slot, Store, StoreFull};
+pub use string_painting::{Brush, Painted};

@@ -1,13 +1,19 @@
-ghost use Rattle.std.specs.Prelude.{◌≡◌, ◌+◌, ◌<◌, ◌≤◌, List, [], length, sum_by, IfOk, IfErr, IsOk};
+ghost use Rattle.std.specs.Prelude.{◌≡◌, ℕ, ◌+◌, ◌*◌, ◌^◌, ◌<◌, ◌≤◌, List, [], ◌++◌, length, map, sum_by, IfOk, IfErr, IsOk};
 ghost use Rattle.sub_base.specs.Depth.{code_count, pixel_bytes};
+ghost use Rattle.stream_syntax.specs.PixelCodes.{Code, IsString};
+ghost use Rattle.string_painting.specs.Painting.{IsMapTable, laid_over, pixels_of_codes};
 ghost use Rattle.pixel_store.specs.Regions.{IsPlaced, region_at, code_of, no_regions, need_in, with_region};
-ghost use Rattle.pixel_store.specs.Regions.{IsOver, PlacesOne, KeepsOthers, IsFilled, IsRunPainted, IsPackedRow};
-ghost use Rattle.pixel_store.specs.Calls.{StoreCall, Place, Fill, PaintRun, last_write, IsAfter, FollowsCall};
+ghost use Rattle.pixel_store.specs.Regions.{IsOver, PlacesOne, KeepsOthers, IsFilled};
+ghost use Rattle.pixel_store.specs.Regions.{IsRunPainted, IsStringPainted, IsPackedRow};
+ghost use Rattle.pixel_store.specs.Calls.{StoreCall, Place, Fill, PaintRun, PaintString};
+ghost use Rattle.pixel_store.specs.Calls.{last_write, shown_code, IsAfter, FollowsCall};
 ghost use Rattle.pixel_store.specs.Private.Stores.{extent_at as extent_of};
 
 use crate::extent::{Extent, clear, code_at, fill_rows, packed_row, paint_row, size};
+use crate::string_rows::paint_row_string;
 use std::alloc::Global;
 use std::marker::Model;
+use string_painting::{Brush, Painted};
 use sub_base::{Depth, NoMemory, zeros};
 use thiserror::Error;
 
@@ -142,6 +148,47 @@ impl Store {
             let to = (x as usize + length as usize).min(width);
             paint_row(&mut self.bytes, extent, y as u16, from, to, code);
         }
+    }
+
+    /// Paints the pixel code string that begins some bytes into row y, from column x on, as far as
+    /// the region has the pixels (EN 300 743, 2-bit, 4-bit and 8-bit pixel code strings). `table`
+    /// are the bytes of the map table between the two depths, as they stand in a block; where the
+    /// depths are the same they are not looked at. Of bytes that begin no string the codes before
+    /// their end may be painted.
+    pub fn paint_string(
+        &mut self,
+        slot: Slot,
+        x: u32,
+        y: u32,
+        string: &[u8],
+        brush: Brush,
+        table: &[u8],
+    ) -> Painted
+        requires slot { IsPlaced self.old slot }
+        requires region { brush.region ≡ (region_at self.old slot).depth }
+        requires table { IsMapTable brush table.now }
+        requires room { x + 284 * (8 * length string.now) < 2 ^ 32 }
+        ensures others { KeepsOthers slot self.old self.new }
+        ensures painted { (codes : List Code) (front rest : List ℕ) → string.now ≡ front ++ rest
+            → IsString brush.string codes front
+            → IsStringPainted x y (laid_over brush table.now) (pixels_of_codes brush.string codes)
+            (region_at self.old slot) (region_at self.new slot) }
+        ensures size { (codes : List Code) (front rest : List ℕ) → string.now ≡ front ++ rest
+            → IsString brush.string codes front → result.size ≡ length front }
+        ensures column { (codes : List Code) (front rest : List ℕ) → string.now ≡ front ++ rest
+            → IsString brush.string codes front
+            → result.x ≡ x + length (pixels_of_codes brush.string codes) }
+        ensures within { result.size ≤ length string.now }
+        ensures forward { x ≤ result.x }
+        ensures short { result.x ≤ x + 284 * (8 * result.size) }
+        ensures after { (codes : List Code) (front rest : List ℕ) → string.now ≡ front ++ rest
+            → IsString brush.string codes front
+            → FollowsCall (PaintString slot x y
+            (map (shown_code brush table.now) (pixels_of_codes brush.string codes)))
+            self.old self.new }
+    {
+        let extent = extent_at(&self.extents, slot);
+        paint_row_string(&mut self.bytes, extent, x, y, string, brush, table)
     }
 
     /// The code in column x of row y.

@@ -1,8 +1,9 @@
 -- What painting changes: in a byte, over bytes, in a row, in all rows of a region.
-use Rattle.std.specs.Prelude.{◌≡◌, ℕ, ◌+◌, ◌*◌, ◌/◌, ◌%◌, ◌^◌, ◌<◌, ◌≤◌, ◌⊎◌, List, length, slice_index}
+use Rattle.std.specs.Prelude.{◌≡◌, ◌≢◌, ℕ, ◌+◌, ◌*◌, ◌/◌, ◌%◌, ◌^◌, ◌<◌, ◌≤◌, ◌⊎◌, List, length, slice_index}
 use Rattle.sub_base.specs.declared.depth.Depth.{Depth}
 use Rattle.sub_base.specs.declared.depth.Depth.TheVariants.{Two, Four, Eight}
 use Rattle.string_painting.specs.Codes.{codes_in_byte, code_in}
+use Rattle.string_painting.specs.Painting.{code_after}
 use Rattle.pixel_store.specs.Private.Extents.{stride_of, room_of, size_of, row_start, pixel}
 use Rattle.pixel_store.specs.declared.extent.Extent.{Extent}
 
@@ -46,6 +47,20 @@ pub record PaintsRow (extent : Extent) (y from to code : ℕ) (old new : List �
       → pixel new extent x y ≡ pixel old extent x y
   pub untouched : (i : ℕ) → (i < row_start extent y) ⊎ (row_start extent y + stride_of extent ≤ i)
       → slice_index new i ≡ slice_index old i
+
+-- nothing but columns of row y may be changed
+pub record KeepsRows (extent : Extent) (y : ℕ) (old new : List ℕ) : Type 0 where
+  pub others : (x row : ℕ) → x < room_of extent → row < extent.height → row ≢ y
+      → pixel new extent x row ≡ pixel old extent x row
+  pub beside : (x row : ℕ) → extent.width ≤ x → x < room_of extent → row < extent.height
+      → pixel new extent x row ≡ pixel old extent x row
+  pub untouched : (i : ℕ) → (i < extent.offset) ⊎ (extent.offset + size_of extent ≤ i)
+      → slice_index new i ≡ slice_index old i
+
+-- pixels are laid over row y from column `start` on
+abbrev pub LaysRow : Extent → ℕ → (ℕ → ℕ → ℕ) → ℕ → List ℕ → List ℕ → List ℕ → Type 0
+LaysRow extent y over start pixels old new = (x : ℕ) → x < extent.width → y < extent.height
+    → pixel new extent x y ≡ code_after over start pixels x (pixel old extent x y)
 
 -- the first `rows` rows have `code` in each column, and nothing else is changed
 pub record Fills (extent : Extent) (rows code : ℕ) (old new : List ℕ) : Type 0 where
