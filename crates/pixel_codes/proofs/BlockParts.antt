@@ -14,7 +14,7 @@ use Rattle.pixel_codes.specs.declared.part.Head.{Head}
 use Rattle.pixel_codes.specs.declared.part.Head.TheVariants.{PixelString, Table, LineEnd}
 use Rattle.code_strings.specs.declared.token.Token.{Token}
 use Rattle.code_strings.specs.declared.token.Token.TheVariants.{Pixels, End}
-use Rattle.pixel_codes.specs.Private.Parts.{head_of}
+use Rattle.pixel_codes.specs.Heads.{head_of}
 use Rattle.code_strings.specs.Reading.{token_at}
 use Rattle.code_strings.proofs.Bits.{IsBits-bits_of}
 use Rattle.code_strings.proofs.Tokens.{StandsAt}

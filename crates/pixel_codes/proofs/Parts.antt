@@ -14,7 +14,7 @@ use Rattle.stream_syntax.specs.declared.code_fault.CodeKind.{CodeKind}
 use Rattle.stream_syntax.specs.declared.code_fault.CodeKind.TheVariants.{UnknownType, TooDeep, CutString, CutTable}
 use Rattle.pixel_codes.specs.declared.part.Head.{Head}
 use Rattle.pixel_codes.specs.declared.part.Head.TheVariants.{PixelString, Table, LineEnd}
-use Rattle.pixel_codes.specs.Private.Parts.{head_of}
+use Rattle.pixel_codes.specs.Heads.{head_of}
 use Rattle.code_strings.proofs.Strings.{same_string}
 
 -- ---- type bytes

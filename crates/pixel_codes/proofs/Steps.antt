@@ -14,7 +14,7 @@ use Rattle.pixel_codes.specs.declared.part.Head.TheVariants.{Table}
 use Rattle.code_strings.specs.declared.token.Token.{Token}
 use Rattle.code_strings.specs.declared.token.Token.TheVariants.{Pixels, End}
 use Rattle.code_strings.specs.Reading.{token_at}
-use Rattle.pixel_codes.specs.Private.Parts.{head_of}
+use Rattle.pixel_codes.specs.Heads.{head_of}
 use Rattle.pixel_codes.specs.Private.Walk.{Maps, with_table, mapped_by, Pen, run_of, runs_after_head, runs_at_token, runs_within, runs_left}
 use Rattle.pixel_codes.specs.Private.Cursor.{bits_left}
 use Rattle.code_strings.proofs.Bits.{IsBits-bits_of, length-bits_of}

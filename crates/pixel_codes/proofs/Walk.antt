@@ -16,7 +16,7 @@ use Rattle.pixel_codes.specs.declared.part.Head.TheVariants.{PixelString, Table,
 use Rattle.code_strings.specs.declared.token.Token.{Token}
 use Rattle.code_strings.specs.declared.token.Token.TheVariants.{Pixels, End}
 use Rattle.code_strings.specs.Reading.{token_at}
-use Rattle.pixel_codes.specs.Private.Parts.{head_of}
+use Rattle.pixel_codes.specs.Heads.{head_of}
 use Rattle.pixel_codes.specs.Private.Walk.{half_of, mapped_by, with_table, Pen, start_pen, Onward, run_of, runs_after_token, runs_at_token, runs_after_head, runs_within, runs_left, runs_in}
 use Rattle.code_strings.proofs.Bits.{length-bits_of, bits_of-append, IsBits-bits_of}
 use Rattle.code_strings.proofs.Tokens.{width_of, end_width, length-spelled, length-ending, token_spelled, token_ending, StandsAt}

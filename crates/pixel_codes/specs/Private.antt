@@ -1,8 +1,6 @@
 -- What functions of this crate do inside: no other crate cites these.
 pub mod Least
-pub mod Parts
 pub mod Walk
-pub mod Tables
 pub mod Cursor
 pub mod Stream
 pub mod Spelling

@@ -1,6 +1,6 @@
 ghost use Rattle.std.specs.Prelude.{◌≡◌, ℕ, ◌+◌, ◌<◌, ◌≤◌, length, take, IsTrue, ◌↔◌, IfOk, IfErr, IfSome, IfNone, List, ◌∷◌, ◌++◌};
 ghost use Rattle.stream_syntax.specs.PixelBlocks.{Part, IsPart, IsRefused, IsNoDeeper, table_size};
-ghost use Rattle.pixel_codes.specs.Private.Parts as parts;
+ghost use Rattle.pixel_codes.specs.Heads as parts;
 
 use code_strings::string_end;
 use stream_syntax::{
@@ -9,16 +9,19 @@ use stream_syntax::{
 };
 use sub_base::Depth;
 
-/// What the type byte of a sub-block says.
+/// What the type byte of a sub-block says (data_type of EN 300 743, pixel-data sub-block).
 #[derive(Clone, Copy, Debug, PartialEq, Eq)]
-pub(crate) enum Head {
+pub enum Head {
+    /// A pixel code string of a depth follows.
     PixelString(Depth),
+    /// The entries of a map table follow.
     Table(MapTable),
+    /// The line has ended: nothing follows.
     LineEnd,
 }
 
 /// The sub-block that a type byte begins; none where it begins none.
-pub(crate) fn head_of(first: u8) -> Option<Head>
+pub fn head_of(first: u8) -> Option<Head>
     ensures { result ≡ parts.head_of first }
 {
     match first {
@@ -34,7 +37,7 @@ pub(crate) fn head_of(first: u8) -> Option<Head>
 }
 
 /// How many bytes of entries a map table has.
-pub(crate) fn size_of_table(table: MapTable) -> usize
+pub fn size_of_table(table: MapTable) -> usize
     ensures { result ≡ table_size table }
 {
     match table {

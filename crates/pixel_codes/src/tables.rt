@@ -3,6 +3,7 @@ ghost use Rattle.sub_base.specs.Depth.{code_count};
 ghost use Rattle.stream_syntax.specs.PixelBlocks.{table_size};
 ghost use Rattle.pixel_codes.specs.Private.Walk.{half_of};
 
+use std::marker::Model;
 use stream_syntax::MapTable;
 use sub_base::Depth;
 
@@ -16,24 +17,39 @@ static FOUR_TO_EIGHT: [u8; 16] = [
     0x00, 0x11, 0x22, 0x33, 0x44, 0x55, 0x66, 0x77, 0x88, 0x99, 0xAA, 0xBB, 0xCC, 0xDD, 0xEE, 0xFF,
 ];
 
-/// The map tables that hold at a place of a block: the default ones, or bytes of the block.
+/// The map tables that hold at a place of a block (EN 300 743, map table data): the default ones, or
+/// bytes of the block. They are seen as their bytes.
 #[derive(Drop)]
-pub(crate) struct Tables<'a> {
-    pub(crate) two_to_four: &'a [u8],
-    pub(crate) two_to_eight: &'a [u8],
-    pub(crate) four_to_eight: &'a [u8],
-    ghost two_bytes: { length two_to_four.now ≡ 2 },
-    ghost four_bytes: { length two_to_eight.now ≡ 4 },
-    ghost sixteen_bytes: { length four_to_eight.now ≡ 16 },
+pub struct Tables<'a> {
+    two_to_four: &'a [u8],
+    two_to_eight: &'a [u8],
+    four_to_eight: &'a [u8],
+}
+
+impl<'a> Model for Tables<'a> {
+    ghost use Rattle.std.specs.Prelude.{◌≡◌, length};
+    ghost use Rattle.pixel_codes.specs.Maps.{Maps};
+
+    ghost Value = { Maps };
+
+    ghost view = { λ t. record {
+      two_to_four = t.two_to_four.now;
+      two_to_eight = t.two_to_eight.now;
+      four_to_eight = t.four_to_eight.now;
+    } };
+
+    ghost invariant = { λ t. (length t.two_to_four.now ≡ 2) × (length t.two_to_eight.now ≡ 4)
+        × (length t.four_to_eight.now ≡ 16) };
 }
 
 impl<'a> Tables<'a> {
-    ghost use Rattle.pixel_codes.specs.Private.Tables.{maps_of};
-    ghost use Rattle.pixel_codes.specs.Private.Walk.{default_maps, mapped_by, with_table};
+    ghost use Rattle.std.specs.Prelude.{◌≡◌, IfSome, length};
+    ghost use Rattle.pixel_codes.specs.Maps.{default_maps, kind_between, table_between, with_table};
+    ghost use Rattle.pixel_codes.specs.Private.Walk.{mapped_by};
 
-    /// The tables at the start of a block.
-    pub(crate) fn default_tables() -> Tables<'a>
-        ensures { maps_of result ≡ default_maps }
+    /// The tables at the start of a block (EN 300 743, clause 10).
+    pub fn default_tables() -> Tables<'a>
+        ensures { result ≡ default_maps }
     {
         Tables {
             two_to_four: &TWO_TO_FOUR,
@@ -43,9 +59,9 @@ impl<'a> Tables<'a> {
     }
 
     /// Puts the bytes of a table in the place of the one of its kind.
-    pub(crate) fn set(&mut self, kind: MapTable, table: &'a [u8])
+    pub fn set(&mut self, kind: MapTable, table: &'a [u8])
         requires { length table.now ≡ table_size kind }
-        ensures { maps_of self.new ≡ with_table kind table.now (maps_of self.old) }
+        ensures { self.new ≡ with_table kind table.now self.old }
     {
         match kind {
             MapTable::TwoToFour => self.two_to_four = table,
@@ -54,10 +70,25 @@ impl<'a> Tables<'a> {
         }
     }
 
+    /// The bytes of the table that maps codes of a string to those of a region; none where the
+    /// depths are the same, or the string is deeper.
+    pub fn between(&self, string: Depth, region: Depth) -> &'a [u8]
+        ensures table { result.now ≡ table_between string region self.now }
+        ensures size { IfSome (kind_between string region)
+            (λ kind. length result.now ≡ table_size kind) }
+    {
+        match (string, region) {
+            (Depth::Two, Depth::Four) => self.two_to_four,
+            (Depth::Two, Depth::Eight) => self.two_to_eight,
+            (Depth::Four, Depth::Eight) => self.four_to_eight,
+            _ => &[],
+        }
+    }
+
     /// The region's code for a code of a string.
     pub(crate) fn mapped(&self, depth: Depth, region: Depth, code: u8) -> u8
         requires { code < code_count depth }
-        ensures { result ≡ mapped_by depth region (maps_of self.now) code }
+        ensures { result ≡ mapped_by depth region self.now code }
     {
         let at = code as usize;
         match (depth, region) {

@@ -6,10 +6,9 @@ use Rattle.pixel_codes.specs.declared.cursor.Cursor.{Cursor}
 use Rattle.pixel_codes.specs.declared.cursor.Step.{Step}
 use Rattle.pixel_codes.specs.declared.cursor.Step.TheVariants.{Drawn, Moved, Done}
 use Rattle.pixel_codes.specs.Private.Walk.{Pen, runs_left}
-use Rattle.pixel_codes.specs.Private.Tables.{maps_of}
 
 abbrev pub pen_of : Cursor → Pen
-pen_of cursor = record { x = cursor.x; line = cursor.line; maps = maps_of cursor.tables }
+pen_of cursor = record { x = cursor.x; line = cursor.line; maps = cursor.tables }
 
 -- the runs that come
 abbrev pub left_of : Cursor → List Run

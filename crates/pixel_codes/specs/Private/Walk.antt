@@ -7,28 +7,13 @@ use Rattle.stream_syntax.specs.PixelBlocks.{table_size}
 use Rattle.stream_syntax.specs.declared.map_table.MapTable.{MapTable}
 use Rattle.stream_syntax.specs.declared.map_table.MapTable.TheVariants.{TwoToFour, TwoToEight, FourToEight}
 use Rattle.stream_syntax.specs.declared.pixel_run.Run.{Run}
+pub use Rattle.pixel_codes.specs.Maps.{Maps, default_maps, with_table}
 use Rattle.pixel_codes.specs.declared.part.Head.{Head}
 use Rattle.pixel_codes.specs.declared.part.Head.TheVariants.{PixelString, Table, LineEnd}
 use Rattle.code_strings.specs.declared.token.Token.{Token}
 use Rattle.code_strings.specs.declared.token.Token.TheVariants.{Pixels, End}
 use Rattle.code_strings.specs.Reading.{token_at}
-use Rattle.pixel_codes.specs.Private.Parts.{head_of}
-
--- the bytes of the map tables that hold
-pub record Maps : Type 0 where
-  pub two_to_four : List ℕ
-  pub two_to_eight : List ℕ
-  pub four_to_eight : List ℕ
-
-abbrev pub default_maps : Maps
-default_maps = record {
-  two_to_four = 0x07 ∷ 0x8F ∷ [];
-  two_to_eight = 0x00 ∷ 0x77 ∷ 0x88 ∷ 0xFF ∷ [];
-  four_to_eight =
-      0x00 ∷ 0x11 ∷ 0x22 ∷ 0x33 ∷ 0x44 ∷ 0x55 ∷ 0x66 ∷ 0x77 ∷ 0x88 ∷ 0x99 ∷ 0xAA ∷ 0xBB
-      ∷ 0xCC ∷ 0xDD ∷ 0xEE ∷ 0xFF
-      ∷ [];
-}
+use Rattle.pixel_codes.specs.Heads.{head_of}
 
 -- the half of a byte for a code, the high one for an even code
 abbrev pub half_of : ℕ → ℕ → ℕ
@@ -40,15 +25,6 @@ mapped_by Two Four maps code = half_of (slice_index maps.two_to_four (code / 2))
 mapped_by Two Eight maps code = slice_index maps.two_to_eight code
 mapped_by Four Eight maps code = slice_index maps.four_to_eight code
 mapped_by depth region maps code = code
-
--- the tables with a new one, whose bytes stand first in some
-abbrev pub with_table : MapTable → List ℕ → Maps → Maps
-with_table TwoToFour body maps =
-    record { two_to_four = take 2 body; two_to_eight = maps.two_to_eight; four_to_eight = maps.four_to_eight }
-with_table TwoToEight body maps =
-    record { two_to_four = maps.two_to_four; two_to_eight = take 4 body; four_to_eight = maps.four_to_eight }
-with_table FourToEight body maps =
-    record { two_to_four = maps.two_to_four; two_to_eight = maps.two_to_eight; four_to_eight = take 16 body }
 
 -- where the pen stands, and the tables
 pub record Pen : Type 0 where

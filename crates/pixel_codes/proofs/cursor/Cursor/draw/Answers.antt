@@ -2,7 +2,6 @@ use Rattle.std.proofs.Common.{◌≡◌, sym, ap, ◌∙◌, ◌+◌, ◌∷◌,
 use Rattle.sub_base.specs.declared.depth.Depth.{Depth}
 use Rattle.stream_syntax.specs.declared.pixel_run.Run.{Run}
 use Rattle.code_strings.specs.declared.token.Token.TheVariants.{Pixels}
-use Rattle.pixel_codes.specs.Private.Tables.{maps_of}
 use Rattle.pixel_codes.specs.Private.Walk.{Pen, runs_left}
 use Rattle.pixel_codes.specs.Private.Cursor.{pen_of}
 use Rattle.pixel_codes.proofs.Steps.{at_token, pixels_fit, one_run, no_run, bits_left-some}
@@ -29,9 +28,9 @@ returns-then-length-eq0 c =
           (Some (Pixels c.args.length c.args.code, c.args.next)) c.requires.string c.requires.read
           ∙ ap (λ (t : List Run). t
           ++ runs_left s.region (Some c.args.depth) s.rest.now c.args.next
-          (record { x = s.x + c.args.length; line = s.line; maps = maps_of s.tables }))
+          (record { x = s.x + c.args.length; line = s.line; maps = s.tables }))
           (no_run s.region c.args.depth (pen_of s) c.args.length c.args.code (omega arith))
-          ∙ ap (λ (n : ℕ). let pen : Pen = record { x = n; line = s.line; maps = maps_of s.tables } in runs_left
+          ∙ ap (λ (n : ℕ). let pen : Pen = record { x = n; line = s.line; maps = s.tables } in runs_left
           s.region (Some c.args.depth) s.rest.now c.args.next pen) none
           ∙ ap (λ (i : Option Depth). runs_left s.region i s.rest.now c.args.next (pen_of s))
           (sym c.requires.string),
@@ -71,7 +70,7 @@ invariant_of-self-2 c =
 pub returns : goal.returns
 returns c =
     let s = c.args.self.now in
-    let pen : Pen = record { x = s.x + c.args.length; line = s.line; maps = maps_of s.tables } in
+    let pen : Pen = record { x = s.x + c.args.length; line = s.line; maps = s.tables } in
     at_token s.region c.args.depth s.string s.rest.now s.place (pen_of s)
     (Some (Pixels c.args.length c.args.code, c.args.next)) c.requires.string c.requires.read
     ∙ ap (λ (t : List Run). t ++ runs_left s.region (Some c.args.depth) s.rest.now c.args.next pen)

@@ -1,7 +1,6 @@
 use Rattle.std.proofs.Common.{refl, sym, ap, ◌∙◌, ◌+◌, arith, Some, None, Option}
 use Rattle.sub_base.specs.declared.depth.Depth.{Depth}
 use Rattle.pixel_codes.specs.declared.part.Head.TheVariants.{PixelString, Table, LineEnd}
-use Rattle.pixel_codes.specs.Private.Tables.{maps_of}
 use Rattle.pixel_codes.specs.Private.Walk.{Pen, runs_left}
 use Rattle.pixel_codes.specs.Private.Cursor.{pen_of}
 use Rattle.pixel_codes.proofs.Steps.{at_end, at_part, past_table, cut_table, bits_left-none}
@@ -51,7 +50,7 @@ returns-in-None c =
 pub returns-in-Some-LineEnd : goal.returns-in-Some-LineEnd
 returns-in-Some-LineEnd c =
     let s = c.args.self.now in
-    let pen : Pen = record { x = 0; line = s.line + 1; maps = maps_of s.tables } in (
+    let pen : Pen = record { x = 0; line = s.line + 1; maps = s.tables } in (
       at_part s.region s.string s.rest.now c.in-Some.body.now s.place c.in-Some.first.now (pen_of s) c.head_of.result
           (Some LineEnd) c.requires c.in-Some.ensures.cases.0 c.head_of.ensures
           (c.in-Some-LineEnd.is ∙ ap Some c.in-Some-LineEnd.field-0-is)
@@ -90,12 +89,12 @@ pub returns-else-body-size : goal.returns-else-body-size
 returns-else-body-size c =
     let s = c.args.self.now in
     let k = c.in-Some-Table.kind in
-    let pen : Pen = record { x = s.x; line = s.line; maps = maps_of c.set.new.self } in (
+    let pen : Pen = record { x = s.x; line = s.line; maps = c.set.new.self } in (
       at_part s.region s.string s.rest.now c.in-Some.body.now s.place c.in-Some.first.now (pen_of s) c.head_of.result
           (Some (Table k)) c.requires c.in-Some.ensures.cases.0 c.head_of.ensures
           (c.in-Some-Table.is ∙ ap Some c.in-Some-Table.field-0-is)
           ∙ past_table s.region c.in-Some.body.now c.split_at.result.0.now c.split_at.result.1.now k
-          c.size_of_table-size.result (pen_of s) (maps_of c.set.new.self) c.size_of_table-size.ensures
+          c.size_of_table-size.result (pen_of s) c.set.new.self c.size_of_table-size.ensures
           c.if-body-size.false c.split_at.ensures.front c.split_at.ensures.back c.set.ensures
           ∙ ap (λ (i : Option Depth). runs_left s.region i c.split_at.result.1.now 0 pen) (sym c.requires),
       omega (
