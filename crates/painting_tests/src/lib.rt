@@ -1,6 +1,9 @@
-//! Tests of strings that are painted into packed rows, with bytes that were worked out by hand.
+//! Tests of strings that are painted into packed rows, and of blocks that are painted into regions,
+//! with bytes that were worked out by hand.
 //! There is no code here but tests, so that no crate is proved again for them.
 #![tactic(auto)]
 
+#[cfg(test)]
+mod painted_blocks;
 #[cfg(test)]
 mod painted_rows;

@@ -1,0 +1,4 @@
+-- What functions of this crate do inside: no other crate cites these.
+pub mod Pens
+pub mod Heads
+pub mod Walks
