@@ -1,11 +1,14 @@
-ghost use Rattle.std.specs.Prelude.{◌≡◌, ◌+◌, ◌<◌, ◌≤◌, ◌^◌, ◌++◌, length, take, replicate, All, Some, OnOk};
+ghost use Rattle.std.specs.Prelude.{◌≡◌, ◌+◌, ◌<◌, ◌≤◌, ◌^◌, ◌++◌, length, take, replicate, All, IfSome, Some, OnOk};
 ghost use Rattle.sub_base.specs.Depth.{code_count};
 ghost use Rattle.cue_list.specs.CellFaults.{fault_in};
+ghost use Rattle.sub_base.specs.Number.{number_in as number_in_of};
+ghost use Rattle.cue_list.specs.Codes.{double_code as code_of_two, hex_value};
+ghost use Rattle.cue_list.specs.declared.limits.TheConstants.{LONGEST_RUN};
 ghost use Rattle.cue_list.specs.PixelRuns.{place_of as place_of_mark, code_at_depth as code_at_depth_of, run_in as run_in_of, run_codes, is_in_runs as is_in_runs_of};
 ghost use Rattle.cue_list.specs.RowFaults.{runs_fault};
 
 use crate::fault::ScriptKind;
-use crate::hex::hex_value;
+use crate::hex::digit_value;
 use crate::limits::LONGEST_RUN;
 use sub_base::{Depth, number_in};
 
@@ -72,7 +75,12 @@ fn put_run(run: PixelRun, codes: &mut [u8], filled: usize) -> usize
     if end > codes.len() {
         return codes.len() + 1;
     }
-    codes[filled..end].fill(run.code);
+    if run.count == 1 {
+        // Half of the runs of smoothed text have one pixel or two.
+        codes[filled] = run.code;
+    } else {
+        codes[filled..end].fill(run.code);
+    }
     end
 }
 
@@ -81,7 +89,7 @@ fn run_in(depth: Depth, text: &[u8]) -> Option<PixelRun>
     ensures { result ≡ run_in_of depth text.now }
 {
     let star = place_of(b'*', text);
-    let count = number_in(&text[..star], 1, u64::from(LONGEST_RUN))?;
+    let count = count_in(&text[..star])?;
     let code = code_at_depth(depth, text.get(star + 1..).unwrap_or(&[]))?;
     Some(PixelRun {
         count: count as u32,
@@ -89,16 +97,53 @@ fn run_in(depth: Depth, text: &[u8]) -> Option<PixelRun>
     })
 }
 
+/// The count that a text is, 1 to 2,073,600.
+#[inline(always)]
+fn count_in(text: &[u8]) -> Option<u64>
+    ensures value { result ≡ number_in_of 1 LONGEST_RUN text.now }
+    ensures most { IfSome result (λ count. count ≤ LONGEST_RUN) }
+{
+    match text {
+        // Nearly all runs of text are shorter than a hundred pixels.
+        [ones @ b'1'..=b'9'] => Some(u64::from(*ones - b'0')),
+        [tens @ b'1'..=b'9', ones @ b'0'..=b'9'] => {
+            Some(u64::from(*tens - b'0') * 10 + u64::from(*ones - b'0'))
+        }
+        _ => number_in(text, 1, u64::from(LONGEST_RUN)),
+    }
+}
+
 /// The code that digits are: one hexadecimal digit, two at 8 bits.
 fn code_at_depth(depth: Depth, digits: &[u8]) -> Option<u8>
     ensures { result ≡ code_at_depth_of depth digits.now }
 {
     match (depth, digits) {
-        (Depth::Two | Depth::Four, [digit]) => hex_value(char::from(*digit)),
-        (Depth::Eight, [high, low]) => {
-            Some(16 * hex_value(char::from(*high))? + hex_value(char::from(*low))?)
-        }
+        (Depth::Two | Depth::Four, [digit]) => single_code(*digit),
+        (Depth::Eight, [high, low]) => double_code(*high, *low),
         _ => None,
+    }
+}
+
+/// The code of one hexadecimal digit.
+#[inline(always)]
+fn single_code(digit: u8) -> Option<u8>
+    ensures { result ≡ hex_value digit }
+{
+    // By its value, and not by its kind: a processor cannot foresee whether it is a letter.
+    let value = digit_value(digit);
+    if value < 16 { Some(value) } else { None }
+}
+
+/// The code of two hexadecimal digits.
+#[inline(always)]
+fn double_code(high: u8, low: u8) -> Option<u8>
+    ensures { result ≡ code_of_two high low }
+{
+    let (first, second) = (digit_value(high), digit_value(low));
+    if first < 16 && second < 16 {
+        Some(16 * first + second)
+    } else {
+        None
     }
 }
 
