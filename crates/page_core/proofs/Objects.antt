@@ -1,7 +1,6 @@
 -- Object segments that are taken: the regions that an object paints, what it writes there, and its blocks in the depth
 -- of a region.
 pub mod Written
-pub mod BlockCodes
 pub mod BlockDepths
 pub mod Rewriting
 pub mod Repainting

@@ -17,7 +17,7 @@ use Rattle.page_core.specs.Private.Painted.{field_runs}
 use Rattle.page_core.specs.declared.composition.listings.Painter.{Painter}
 use Rattle.page_core.proofs.Objects.EverywhereKept.{all_at}
 use Rattle.page_core.proofs.Objects.ObjectSteps.{object_writes, object_keeps}
-use Rattle.page_core.proofs.Objects.Written.{later_first}
+use Rattle.block_painting.proofs.Written.{later_first}
 
 abbrev slots_of : List KeptRegion → List ℕ
 slots_of regions = map (λ (kept : KeptRegion). kept.slot) regions

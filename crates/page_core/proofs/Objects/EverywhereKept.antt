@@ -21,7 +21,7 @@ use Rattle.page_core.specs.declared.node.Node.TheVariants as node
 use Rattle.page_core.specs.declared.node.RegionNode.{RegionNode}
 use Rattle.page_core.proofs.Objects.ObjectRegions.{IsLeastOf, least_is, fault_of_region}
 use Rattle.page_core.proofs.Objects.PaintedRegions.{listings_of_list, written_through, kinds_of}
-use Rattle.page_core.proofs.Objects.Written.{written_as}
+use Rattle.block_painting.proofs.Written.{written_as}
 
 -- ---- what holds of the regions of nodes
 

@@ -1,9 +1,7 @@
 -- An object that is painted in all regions, one after another.
-use Rattle.std.proofs.Common.{◌≡◌, ◌∙◌, refl, sym, ap, ℕ, Bool, true, false, ◌||◌, cond, ltb, List, [], ◌∷◌, ◌++◌, map, Contains, Option, Some, None, option_map, arith}
+use Rattle.std.proofs.Common.{◌≡◌, ◌∙◌, refl, sym, ap, ℕ, Bool, true, false, cond, ltb, List, ◌∷◌, ◌++◌, Contains, Option, Some, None, option_map, arith}
 use Rattle.std.specs.List.{list_any}
-use Rattle.std.specs.Option.{option_or}
 use Rattle.std.proofs.lemmas.Bool.Decides.{nat_tests}
-use Rattle.sub_base.specs.Lists.{last_given}
 use Rattle.stream_syntax.specs.Segments.{Object}
 use Rattle.comp_pool.specs.declared.node.NodeId.{NodeId}
 use Rattle.comp_pool.specs.Places.{behind, rest_from}
@@ -11,100 +9,16 @@ use Rattle.comp_pool.specs.Pool.{PoolOf, list_of}
 use Rattle.decoder_model.specs.Faults.{depth_fault}
 use Rattle.decoder_model.specs.Readings.{Content}
 use Rattle.decoder_model.specs.declared.set_fault.SetFault.{SetFault}
-use Rattle.pixel_store.specs.Regions.{Regions}
 use Rattle.page_core.specs.Private.Everywhere.{AreApart, painted_where}
-use Rattle.page_core.specs.Private.Listings.{code_by_node, code_by_pair, painted_node}
-use Rattle.page_core.specs.Private.Lists.{with_changed, IsRewritten}
-use Rattle.page_core.specs.Private.Nodes.{is_region_of, listing_in, listings_list}
-use Rattle.page_core.specs.Private.ObjectFaults.{fault_in_node, fault_in_pair, fault_in_region_node, in_region, is_due_node, is_due_pair, least_of, lesser}
-use Rattle.page_core.specs.Private.Painted.{FieldRuns, IsWritten}
+use Rattle.page_core.specs.Private.Nodes.{is_region_of, listings_list}
+use Rattle.page_core.specs.Private.ObjectFaults.{fault_in_node, fault_in_pair, in_region, is_due_pair, least_of, lesser}
 use Rattle.page_core.specs.declared.composition.listings.Painter.{Painter}
 use Rattle.page_core.specs.declared.node.Node.{Node}
 use Rattle.page_core.specs.declared.node.Node.TheVariants as node
 use Rattle.page_core.specs.declared.node.RegionNode.{RegionNode}
 use Rattle.page_core.proofs.Objects.EverywhereWalks.{IsPaintingAll, from_node}
-use Rattle.page_core.proofs.Objects.Written.{nothing_written}
-
--- ---- a region
-
-none_by_node : (painter : Painter) (fields : FieldRuns) (x y : ℕ) (item : Node)
-    → is_due_node painter item ≡ false → code_by_node painter fields x y (listing_in item) ≡ None
-none_by_node painter fields x y (node.Entry entry) e = refl
-none_by_node painter fields x y (node.Region region) e = refl
-none_by_node painter fields x y (node.Listing kept) e = rw e refl
-none_by_node painter fields x y (node.Clut clut) e = refl
-none_by_node painter fields x y (node.Colour place) e = refl
-
--- where nothing is due, nothing is written
-none_due : (painter : Painter) (fields : FieldRuns) (x y : ℕ) (ps : List (NodeId × Node))
-    → list_any (is_due_pair painter) ps ≡ false → last_given (code_by_pair painter fields x y) ps ≡ None
-none_due painter fields x y [] e = refl
-none_due painter fields x y (p ∷ ps) e =
-    by (is_due_node painter p.1) refl e (λ rest. none_due painter fields x y ps rest)
-  where
-    by : (due : Bool) → is_due_node painter p.1 ≡ due → (due || list_any (is_due_pair painter) ps) ≡ false
-        → (list_any (is_due_pair painter) ps ≡ false → last_given (code_by_pair painter fields x y) ps ≡ None)
-        → last_given (code_by_pair painter fields x y) (p ∷ ps) ≡ None
-    by true is e rest = absurd (cc)
-    by false is e rest = (λ i. option_or (rest e i) (none_by_node painter fields x y p.1 is i))
-
--- a node that is not due stays
-not_due_node : (painter : Painter) (item : Node) → is_due_node painter item ≡ false
-    → painted_node painter item ≡ item
-not_due_node painter (node.Entry entry) e = refl
-not_due_node painter (node.Region region) e = refl
-not_due_node painter (node.Listing kept) e = rw e refl
-not_due_node painter (node.Clut clut) e = refl
-not_due_node painter (node.Colour place) e = refl
-
-not_due_pairs : (painter : Painter) (ps : List (NodeId × Node)) → list_any (is_due_pair painter) ps ≡ false
-    → map (with_changed (painted_node painter)) ps ≡ ps
-not_due_pairs painter [] e = refl
-not_due_pairs painter (p ∷ ps) e = by (is_due_node painter p.1) refl e (λ rest. not_due_pairs painter ps rest)
-  where
-    by : (due : Bool) → is_due_node painter p.1 ≡ due → (due || list_any (is_due_pair painter) ps) ≡ false
-        → (list_any (is_due_pair painter) ps ≡ false → map (with_changed (painted_node painter)) ps ≡ ps)
-        → map (with_changed (painted_node painter)) (p ∷ ps) ≡ p ∷ ps
-    by true is e rest = absurd (cc)
-    by false is e rest = λ i. (p.0, not_due_node painter p.1 is i) ∷ rest e i
-
--- where nothing is due, a list is as it was
-pub none_rewritten : (painter : Painter) (l : ℕ) (pool : PoolOf Node)
-    → list_any (is_due_pair painter) (list_of pool l) ≡ false → IsRewritten l (painted_node painter) pool pool
-none_rewritten painter l pool none = record {
-  beside = record { lists = refl; others = λ k other. refl; count = refl };
-  free = refl;
-  list = sym (not_due_pairs painter (list_of pool l) none);
-}
-
--- and nothing is written
-pub none_written : (painter : Painter) (fields : FieldRuns) (slot : ℕ) (ps : List (NodeId × Node))
-    (store : Regions) → list_any (is_due_pair painter) ps ≡ false
-    → IsWritten slot (λ x y. last_given (code_by_pair painter fields x y) ps) store store
-none_written painter fields slot ps store none =
-    nothing_written slot (λ x y. last_given (code_by_pair painter fields x y) ps) store
-    (λ x y. none_due painter fields x y ps none)
 
 -- ---- the fault of the object
-
--- where something is due, the fault in a region is that of its depth
-pub region_fault : (painter : Painter) (content : Content) (object : Object) (pool : PoolOf Node) (region : RegionNode)
-    (found : Option SetFault)
-    → true ≡ list_any (is_due_pair painter) (list_of pool (listings_list region.head.region))
-    → depth_fault region.head.depth content object ≡ found
-    → option_map (in_region region.head.region) found ≡ fault_in_region_node pool painter content object region
-region_fault painter content object pool region found due is =
-    ap (option_map (in_region region.head.region)) (sym is)
-    ∙ ap (λ (b : Bool). cond b
-    (option_map (in_region region.head.region) (depth_fault region.head.depth content object)) None) due
-
--- where nothing is due, there is none
-pub no_region_fault : (painter : Painter) (content : Content) (object : Object) (pool : PoolOf Node)
-    (region : RegionNode) → false ≡ list_any (is_due_pair painter) (list_of pool (listings_list region.head.region))
-    → None ≡ fault_in_region_node pool painter content object region
-no_region_fault painter content object pool region due =
-    ap (λ (b : Bool). cond b (option_map (in_region region.head.region) (depth_fault region.head.depth content object))
-    None) due
 
 lesser_none : (found : Option (ℕ × SetFault)) → lesser found None ≡ found
 lesser_none None = refl

@@ -15,7 +15,8 @@ use Rattle.page_core.specs.Private.Everywhere.{HasNoFault, HasRegionAt, KeepsAt,
 use Rattle.page_core.specs.Private.Listings.{code_by_pair}
 use Rattle.page_core.specs.Memory.{HasSidesOf}
 use Rattle.page_core.specs.Private.Nodes.{kept_in, region_node, is_region_of, listings_list}
-use Rattle.page_core.specs.Private.Painted.{HasRegion, IsWritten, field_runs}
+use Rattle.block_painting.specs.Writing.{IsWritten}
+use Rattle.page_core.specs.Private.Painted.{HasRegion, field_runs}
 use Rattle.page_core.specs.Private.ObjectFaults.{in_region, is_due_pair}
 use Rattle.page_core.specs.declared.composition.listings.Painter.{Painter}
 use Rattle.page_core.specs.declared.node.Node.{Node}

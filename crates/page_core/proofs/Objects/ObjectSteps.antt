@@ -16,9 +16,11 @@ use Rattle.decoder_model.specs.Taken.{Taken, has_new_version, taken_region}
 use Rattle.pixel_store.specs.Regions.{Regions, region_at, code_of}
 use Rattle.page_core.specs.Private.Listings.{is_due, code_by_kept, painted_listing, IsPainter}
 use Rattle.page_core.specs.Memory.{kept_listing}
-use Rattle.page_core.specs.Private.Painted.{FieldRuns, IsWritten, code_by_fields, field_runs}
+use Rattle.block_painting.specs.Writing.{IsWritten}
+use Rattle.page_core.specs.Private.Painted.{FieldRuns, code_by_fields, field_runs}
 use Rattle.page_core.specs.declared.composition.listings.Painter.{Painter}
-use Rattle.page_core.proofs.Objects.Written.{named_listings, later_first}
+use Rattle.block_painting.proofs.Written.{later_first}
+use Rattle.page_core.proofs.Objects.Written.{named_listings}
 
 -- ---- pixels
 

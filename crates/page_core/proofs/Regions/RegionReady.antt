@@ -21,7 +21,8 @@ use Rattle.page_core.specs.Composition.{Composition, KeptListing, KeptRegion}
 use Rattle.page_core.specs.Composition.{region_in as kept_in}
 use Rattle.page_core.specs.Handed.{AreContents}
 use Rattle.page_core.specs.Memory.{HasSidesOf, head_of, kept_listing}
-use Rattle.page_core.specs.Private.Painted.{HasRegion, IsWritten}
+use Rattle.block_painting.specs.Writing.{IsWritten}
+use Rattle.page_core.specs.Private.Painted.{HasRegion}
 use Rattle.page_core.specs.Private.RegionSteps.{AreReady, AreStored, AwaitRegions, IsNewRegion, IsRegionTaken, IsTakenAgain, awaited, is_renewed, nodes_needed_by, nodes_needed_for, with_regions_of}
 use Rattle.page_core.specs.Private.RegionTests.{AreApart, first_in, is_new}
 use Rattle.page_core.specs.Private.Seen.{defines}
@@ -38,7 +39,7 @@ use Rattle.page_core.proofs.Regions.RegionNodes.{found_there}
 use Rattle.page_core.proofs.Regions.RegionsStored.{region_again}
 use Rattle.page_core.proofs.Regions.RenewedRegions.{renews_is}
 use Rattle.page_core.proofs.Regions.TakenRegions.{code_then, held_then, is_region_of, no_pixels, taken_by_version, taken_then}
-use Rattle.page_core.proofs.Objects.Written.{written_as}
+use Rattle.block_painting.proofs.Written.{written_as}
 
 -- ---- bytes and slots
 

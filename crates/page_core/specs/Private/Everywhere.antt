@@ -13,7 +13,8 @@ use Rattle.page_core.specs.Private.Listings.{code_by_kept, code_by_pair, painted
 use Rattle.page_core.specs.Private.Lists.{IsRewritten, with_changed}
 use Rattle.page_core.specs.Private.Nodes.{is_region_of, region_node, listings_list}
 use Rattle.page_core.specs.Private.ObjectFaults.{fault_in_region_node}
-use Rattle.page_core.specs.Private.Painted.{HasRegion, IsWritten, field_runs}
+use Rattle.block_painting.specs.Writing.{IsWritten}
+use Rattle.page_core.specs.Private.Painted.{HasRegion, field_runs}
 use Rattle.page_core.specs.declared.composition.listings.Painter.{Painter}
 use Rattle.page_core.specs.declared.node.Node.{Node}
 use Rattle.page_core.specs.declared.node.Node.TheVariants as node

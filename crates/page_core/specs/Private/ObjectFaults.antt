@@ -1,6 +1,7 @@
 -- The fault of an object in the regions in which it paints: that of the region of the least id.
 use Rattle.std.specs.Prelude.{ℕ, Bool, false, nat_lt, if◌then◌else◌, List, [], ◌∷◌, Option, Some, None, option_map}
 use Rattle.std.specs.List.{list_any}
+use Rattle.sub_base.specs.declared.depth.Depth.{Depth}
 use Rattle.stream_syntax.specs.Segments.{Object}
 use Rattle.comp_pool.specs.Pool.{PoolOf, list_of}
 use Rattle.comp_pool.specs.declared.node.NodeId.{NodeId}
@@ -50,6 +51,16 @@ is_due_node painter (node.Colour place) = false
 
 abbrev pub is_due_pair : Painter → NodeId × Node → Bool
 is_due_pair painter pair = is_due_node painter pair.1
+
+-- its fault through a node, in a region of a depth
+abbrev pub fault_by_node : Painter → Depth → Content → Object → Node → Option SetFault
+fault_by_node painter depth content object item =
+    if is_due_node painter item then depth_fault depth content object else None
+
+-- its fault through the nodes of a list
+abbrev pub fault_through : Painter → Depth → Content → Object → List (NodeId × Node) → Option SetFault
+fault_through painter depth content object pairs =
+    if list_any (is_due_pair painter) pairs then depth_fault depth content object else None
 
 -- the fault in the region of a node
 abbrev pub fault_in_region_node : PoolOf Node → Painter → Content → Object → RegionNode

@@ -15,7 +15,8 @@ use Rattle.sub_base.specs.declared.profile.Profile.{Profile}
 use Rattle.pixel_store.specs.Regions.{PlacesOne, Regions, code_of, region_at}
 use Rattle.page_core.specs.Composition.{AreIdsApart, Composition, KeptListing, KeptRegion, region_in, taken_nodes}
 use Rattle.page_core.specs.Memory.{HasSidesOf, Memory, head_of, kept_listing}
-use Rattle.page_core.specs.Private.Painted.{FitsHead, IsWritten}
+use Rattle.block_painting.specs.Writing.{IsWritten}
+use Rattle.page_core.specs.Private.Painted.{FitsHead}
 use Rattle.page_core.specs.Private.RegionTests.{first_in, head_in, is_new}
 use Rattle.page_core.specs.Private.Walks.{is_region}
 use Rattle.sub_base.specs.Depth.{pixel_bytes}

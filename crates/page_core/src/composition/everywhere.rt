@@ -17,9 +17,8 @@ ghost use Rattle.page_core.specs.Private.Painted.{HasRegion};
 
 use crate::composition::CompositionMemory;
 use crate::composition::listings::{Painter, listings_of, paint_list};
-use crate::composition::objects::{RegionFault, fault_of, is_painting, lesser, painter};
+use crate::composition::objects::{RegionFault, fault_of, lesser, painter};
 use crate::node::{Node, RegionNode};
-use crate::painting_objects::{check_fields, empty_fields};
 use comp_pool::Pool;
 use pixel_store::Store;
 use segments::ObjectSeg;
@@ -30,8 +29,7 @@ const REGIONS: u32 = 1;
 
 impl CompositionMemory {
     /// Paints the object through all listings that it paints, region by region, and keeps its
-    /// version for them. Answers its fault in the region of the least id in which it has one; it
-    /// writes nothing there.
+    /// version for them. Answers its fault in the region of the least id in which it has one.
     pub(crate) fn paint_everywhere(
         &mut self,
         object: &ObjectSeg<'_>,
@@ -100,7 +98,7 @@ fn paint_regions(
     least
 }
 
-/// Paints the object in the region that a node has, or answers its fault there.
+/// Paints the object in the region that a node has, and answers its fault there.
 fn paint_at(
     pool: &mut Pool<Node>,
     painter: Painter,
@@ -129,8 +127,7 @@ fn paint_at(
     }
 }
 
-/// Paints the object through the listings of a region that it paints, or answers its fault there.
-/// Where it has one it writes nothing.
+/// Paints the object through the listings of a region that it paints, and answers its fault there.
 fn paint_in(
     pool: &mut Pool<Node>,
     painter: Painter,
@@ -154,29 +151,10 @@ fn paint_in(
         → HasNoFault painter content (object_value object.now) pool.old region.now
         → IsWrittenIn painter content pool.old region.now store.old store.new }
 {
-    let head = region.head;
-    let list = listings_of(head.region);
-    if !is_painting(pool, list, painter) {
-        return None;
-    }
-    match check_fields(object.top, object.bottom, head.depth) {
-        Ok(fields) => {
-            paint_list(pool, list, painter, &fields, region, store);
-            None
-        }
-        Err(fault) => {
-            paint_list(
-                pool,
-                list,
-                painter,
-                &empty_fields(head.depth),
-                region,
-                store,
-            );
-            Some(RegionFault {
-                region: head.region,
-                fault,
-            })
-        }
-    }
+    let list = listings_of(region.head.region);
+    let fault = paint_list(pool, list, painter, object, region, store)?;
+    Some(RegionFault {
+        region: region.head.region,
+        fault,
+    })
 }
