@@ -4,16 +4,18 @@ use string_painting::{Brush, Painted, RowPlace, paint_string};
 use sub_base::Depth;
 
 /// A pixel of code 7, three of code 9, two of code 0, one of code 1, the end, and a byte behind it.
-const EIGHT_BIT_CODES: [u8; 10] = [0x07, 0x00, 0x83, 0x09, 0x00, 0x02, 0x01, 0x00, 0x00, 0x55];
+pub(crate) const EIGHT_BIT_CODES: [u8; 10] = [
+    0x07, 0x00, 0x83, 0x09, 0x00, 0x02, 0x01, 0x00, 0x00, 0x55,
+];
 
 /// A pixel of code 3, four of code 0, five of code 6, one and two of code 0, and the end.
-const FOUR_BIT_CODES: [u8; 6] = [0x30, 0x20, 0x96, 0x0C, 0x0D, 0x00];
+pub(crate) const FOUR_BIT_CODES: [u8; 6] = [0x30, 0x20, 0x96, 0x0C, 0x0D, 0x00];
 
 /// A pixel of code 2, four of code 1, one and two of code 0, 15 of code 3, the end, and two bits of
 /// fill.
-const TWO_BIT_CODES: [u8; 5] = [0x89, 0x44, 0x10, 0x8F, 0x00];
+pub(crate) const TWO_BIT_CODES: [u8; 5] = [0x89, 0x44, 0x10, 0x8F, 0x00];
 
-fn brush(string: Depth, region: Depth) -> Brush
+pub(crate) fn brush(string: Depth, region: Depth) -> Brush
     ensures string { result.string ≡ string }
     ensures region { result.region ≡ region }
 {

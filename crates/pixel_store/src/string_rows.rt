@@ -4,7 +4,7 @@ ghost use Rattle.std.specs.Prelude.{◌≡◌, ℕ, ◌+◌, ◌*◌, ◌^◌, �
 ghost use Rattle.stream_syntax.specs.PixelCodes.{Code, IsString};
 ghost use Rattle.string_painting.specs.Painting.{IsMapTable, laid_over, pixels_of_codes};
 ghost use Rattle.pixel_store.specs.Private.Extents.{Fits};
-ghost use Rattle.pixel_store.specs.Private.Painting.{KeepsRows, LaysRow};
+ghost use Rattle.pixel_store.specs.Private.Painting.{KeepsRows, LaysRow, TellsString};
 
 use crate::extent::{Extent, row_start, stride};
 use string_painting::{Brush, Painted, RowPlace, paint_string};
@@ -29,14 +29,7 @@ fn paint_string_in(
         → IsString brush.string codes front
         → LaysRow extent y (laid_over brush table.now) x (pixels_of_codes brush.string codes)
         bytes.old bytes.new }
-    ensures size { (codes : List Code) (front rest : List ℕ) → string.now ≡ front ++ rest
-        → IsString brush.string codes front → result.size ≡ length front }
-    ensures column { (codes : List Code) (front rest : List ℕ) → string.now ≡ front ++ rest
-        → IsString brush.string codes front
-        → result.x ≡ x + length (pixels_of_codes brush.string codes) }
-    ensures within { result.size ≤ length string.now }
-    ensures forward { x ≤ result.x }
-    ensures short { result.x ≤ x + 284 * (8 * result.size) }
+    ensures told { TellsString brush x string.now result }
 {
     let start = row_start(extent, y);
     let row = &mut bytes[start..start + stride(extent)];
@@ -51,14 +44,7 @@ fn paint_string_in(
 fn told_string(x: u32, string: &[u8], brush: Brush, table: &[u8]) -> Painted
     requires table { IsMapTable brush table.now }
     requires room { x + 284 * (8 * length string.now) < 2 ^ 32 }
-    ensures size { (codes : List Code) (front rest : List ℕ) → string.now ≡ front ++ rest
-        → IsString brush.string codes front → result.size ≡ length front }
-    ensures column { (codes : List Code) (front rest : List ℕ) → string.now ≡ front ++ rest
-        → IsString brush.string codes front
-        → result.x ≡ x + length (pixels_of_codes brush.string codes) }
-    ensures within { result.size ≤ length string.now }
-    ensures forward { x ≤ result.x }
-    ensures short { result.x ≤ x + 284 * (8 * result.size) }
+    ensures told { TellsString brush x string.now result }
 {
     paint_string(&mut [], RowPlace { width: 0, x }, string, brush, table)
 }
@@ -82,14 +68,7 @@ fn paint_string_at(
         → IsString brush.string codes front
         → LaysRow extent y (laid_over brush table.now) x (pixels_of_codes brush.string codes)
         bytes.old bytes.new }
-    ensures size { (codes : List Code) (front rest : List ℕ) → string.now ≡ front ++ rest
-        → IsString brush.string codes front → result.size ≡ length front }
-    ensures column { (codes : List Code) (front rest : List ℕ) → string.now ≡ front ++ rest
-        → IsString brush.string codes front
-        → result.x ≡ x + length (pixels_of_codes brush.string codes) }
-    ensures within { result.size ≤ length string.now }
-    ensures forward { x ≤ result.x }
-    ensures short { result.x ≤ x + 284 * (8 * result.size) }
+    ensures told { TellsString brush x string.now result }
 {
     if y < u32::from(extent.height) {
         paint_string_in(bytes, extent, x, y as u16, string, brush, table)
@@ -117,14 +96,7 @@ pub(crate) fn paint_row_string(
         → IsString brush.string codes front
         → LaysRow extent y (laid_over brush table.now) x (pixels_of_codes brush.string codes)
         bytes.old.items bytes.new.items }
-    ensures size { (codes : List Code) (front rest : List ℕ) → string.now ≡ front ++ rest
-        → IsString brush.string codes front → result.size ≡ length front }
-    ensures column { (codes : List Code) (front rest : List ℕ) → string.now ≡ front ++ rest
-        → IsString brush.string codes front
-        → result.x ≡ x + length (pixels_of_codes brush.string codes) }
-    ensures within { result.size ≤ length string.now }
-    ensures forward { x ≤ result.x }
-    ensures short { result.x ≤ x + 284 * (8 * result.size) }
+    ensures told { TellsString brush x string.now result }
     ensures length { length bytes.new.items ≡ length bytes.old.items }
 {
     paint_string_at(bytes.as_mut_slice(), extent, x, y, string, brush, table)

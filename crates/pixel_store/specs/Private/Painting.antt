@@ -1,9 +1,12 @@
 -- What painting changes: in a byte, over bytes, in a row, in all rows of a region.
-use Rattle.std.specs.Prelude.{◌≡◌, ◌≢◌, ℕ, ◌+◌, ◌*◌, ◌/◌, ◌%◌, ◌^◌, ◌<◌, ◌≤◌, ◌⊎◌, List, length, slice_index}
+use Rattle.std.specs.Prelude.{◌≡◌, ◌≢◌, ℕ, ◌+◌, ◌*◌, ◌/◌, ◌%◌, ◌^◌, ◌<◌, ◌≤◌, ◌⊎◌, List, ◌++◌, length, slice_index}
 use Rattle.sub_base.specs.declared.depth.Depth.{Depth}
 use Rattle.sub_base.specs.declared.depth.Depth.TheVariants.{Two, Four, Eight}
 use Rattle.string_painting.specs.Codes.{codes_in_byte, code_in}
-use Rattle.string_painting.specs.Painting.{code_after}
+use Rattle.stream_syntax.specs.PixelCodes.{Code, IsString}
+use Rattle.string_painting.specs.Painting.{code_after, pixels_of_codes}
+use Rattle.string_painting.specs.declared.drawing.Brush.{Brush}
+use Rattle.string_painting.specs.declared.painter.Painted.{Painted}
 use Rattle.pixel_store.specs.Private.Extents.{stride_of, room_of, size_of, row_start, pixel}
 use Rattle.pixel_store.specs.declared.extent.Extent.{Extent}
 
@@ -61,6 +64,17 @@ pub record KeepsRows (extent : Extent) (y : ℕ) (old new : List ℕ) : Type 0 w
 abbrev pub LaysRow : Extent → ℕ → (ℕ → ℕ → ℕ) → ℕ → List ℕ → List ℕ → List ℕ → Type 0
 LaysRow extent y over start pixels old new = (x : ℕ) → x < extent.width → y < extent.height
     → pixel new extent x y ≡ code_after over start pixels x (pixel old extent x y)
+
+-- what painting of a string from column x on tells: of a string that begins the bytes how many bytes it has, and the
+-- column behind its last pixel; and of all bytes that no more are passed than there are, and how far the column goes
+pub record TellsString (brush : Brush) (x : ℕ) (string : List ℕ) (told : Painted) : Type 0 where
+  pub size : (codes : List Code) (front rest : List ℕ) → string ≡ front ++ rest → IsString brush.string codes front
+      → told.size ≡ length front
+  pub column : (codes : List Code) (front rest : List ℕ) → string ≡ front ++ rest → IsString brush.string codes front
+      → told.x ≡ x + length (pixels_of_codes brush.string codes)
+  pub within : told.size ≤ length string
+  pub forward : x ≤ told.x
+  pub short : told.x ≤ x + 284 * (8 * told.size)
 
 -- the first `rows` rows have `code` in each column, and nothing else is changed
 pub record Fills (extent : Extent) (rows code : ℕ) (old new : List ℕ) : Type 0 where

@@ -16,8 +16,8 @@ pub record IsStringLaid (brush : Brush) (table : List ℕ) (place : RowPlace) (c
   pub column_is : told.x ≡ place.x + length (pixels_of_codes brush.string codes)
 
 -- what was painted: the string, where one begins the bytes. Whatever they are, codes behind the region's columns stay,
--- no more bytes are passed than there are, the column does not go back, and each bit that is passed is at most one code,
--- which gives at most 284 pixels
+-- no more bytes are passed than there are, the column does not go back, and each bit that is passed brings at most one
+-- code, which gives at most 284 pixels
 pub record PaintsString (brush : Brush) (table : List ℕ) (place : RowPlace) (string : List ℕ) (told : Painted)
     (old new : List ℕ) : Type 0 where
   pub whole : (codes : List Code) (front rest : List ℕ) → string ≡ front ++ rest → IsString brush.string codes front
