@@ -180,24 +180,3 @@ deep_here region depth bytes body begins deep parts are =
   where
     is_deep : (depths.bits_of depth ≤ depths.bits_of region → ⊥) → is_too_deep region (string depth []) ≡ true
     is_deep not_here = grind (arith, nat_tests)
-
--- ---- what a whole walk tells
-
--- all sub-blocks are passed
-pub none_deep : (region : Depth) (bytes rest : List ℕ) → HasPassed region bytes rest
-    → ((depth : Depth) (parts : List Part) → AreParts depth parts rest → parts ≡ [])
-    → (parts : List Part) → AreParts Eight parts bytes → None ≡ too_deep_at region parts
-none_deep region bytes rest passed ended parts are =
-    let all = passed.shallow parts are in
-    sym (all.2 ∙ ap (λ (left : List Part).
-    option_map (λ place. (length bytes - length rest) + place) (too_deep_at region left)) (ended Eight all.0 all.1))
-
--- the first one that is left is too deep
-pub deep_next : (region : Depth) (bytes rest : List ℕ) → HasPassed region bytes rest
-    → ((parts : List Part) → AreParts Eight parts rest → too_deep_at region parts ≡ Some 0)
-    → (parts : List Part) → AreParts Eight parts bytes
-    → Some (length bytes - length rest) ≡ too_deep_at region parts
-deep_next region bytes rest passed deep parts are =
-    let all = passed.shallow parts are in
-    sym (all.2 ∙ ap (option_map (λ place. (length bytes - length rest) + place)) (deep all.0 all.1)
-    ∙ ap Some (omega arith))

@@ -319,14 +319,6 @@ pub record IsWalking (target : Target) (begin : Regions) (bytes : List ℕ) (now
   pub painted : Paints target begin (start_stand target bytes) now stand
   pub passed : HasPassed target.region bytes stand.rest
 
-pub walk_begins : (target : Target) (store : Regions) (bytes : List ℕ) (stand : Stand) → IsTarget target store
-    → stand ≡ start_stand target bytes → IsWalking target store bytes store stand
-walk_begins target store bytes stand placed at = subst (IsWalking target store bytes store) (sym at) (record {
-  placed = placed;
-  painted = paints_nothing target store (start_stand target bytes);
-  passed = passes_nothing target.region bytes;
-})
-
 pub walk_goes_on : (target : Target) (begin : Regions) (bytes : List ℕ) (now next : Regions) (from to : Stand)
     (step : Step) → IsWalking target begin bytes now from → Steps step target now from next to
     → IsWalking target begin bytes next to
