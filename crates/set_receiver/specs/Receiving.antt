@@ -57,6 +57,13 @@ pub record HasBeenFed (ended : Bool) (fed : List (List ℕ)) (given : List (Deli
   pub reads : readers.IsReaderOf ended fed given receiving.collecting
   pub holds : HoldsReceived given receiving.core
 
+-- the same, where so many losses came behind those sets and losses, of which the page memory was not told
+pub record HasToLose (count : ℕ) (ended : Bool) (fed : List (List ℕ)) (given : List (Delivery (List ℕ)))
+    (receiving : SetReceiving) : Type 0 where
+  pub coded : receiving.collecting.sets.coded ≡ receiving.core.profile.coded
+  pub reads : readers.IsReaderOf ended fed (given ++ losses count) receiving.collecting
+  pub holds : HoldsReceived given receiving.core
+
 -- so many losses came behind those that were given
 pub record Loses (count : ℕ) (old new : Memory) : Type 0 where
   pub goes : (given : List (Delivery (List ℕ))) → HoldsReceived given old → HoldsReceived (given ++ losses count) new

@@ -52,15 +52,15 @@ impl SetReceiver {
     ghost use Rattle.decoder_model.specs.Readings.{AreDeliveriesRead, IsDeliveryRead, Reading};
     ghost use Rattle.decoder_model.specs.Received.{sets_received};
     ghost use Rattle.decoder_model.specs.Sets.{Delivery};
-    ghost use Rattle.decoder_model.specs.declared.set_end.SetEnd.TheVariants.{Shown};
+    ghost use Rattle.decoder_model.specs.declared.set_end.SetEnd.TheVariants.{NotLater, Shown};
     ghost use Rattle.display_sets.specs.Gathered.{first_ready, ready_sets, sets_behind};
     ghost use Rattle.display_sets.specs.Lent.{lent};
     ghost use Rattle.display_sets.specs.Standing.{IsFirst};
     ghost use Rattle.set_reader.specs.Arrived.{arrival_value};
     ghost use Rattle.set_reader.specs.Collecting.{losses};
-    ghost use Rattle.set_receiver.specs.Receiving.{AreLosses, IsNextReceived, IsSameReception, HasBeenFed};
+    ghost use Rattle.set_receiver.specs.Receiving.{AreLosses, HasBeenFed, HasToLose, IsNextReceived};
     ghost use Rattle.sub_base.specs.declared.profile.TheConstants.{LARGEST_BUFFER};
-    ghost use Rattle.set_receiver.specs.Receiving.{reception, set_time};
+    ghost use Rattle.set_receiver.specs.Receiving.{IsSameReception, reception, set_time};
 
     /// A receiver of a profile, for a PID and these pages, that was fed nothing. Lifted times begin
     /// at the anchor. All memory is taken here.
@@ -144,9 +144,51 @@ impl SetReceiver {
         ensures page { self.new.core.page ≡ self.old.core.page }
         ensures same { IsSameReception self.old self.new }
     {
-        let came = self.reader.feed(packet)?;
-        lose(&mut self.core, came.losses);
+        let came = self.feed_reader(packet)?;
+        self.lose(came.losses);
         Ok(came)
+    }
+
+    /// The same, but that the page memory is not told of the losses: it is what the sets before
+    /// left, until `lose` tells it of so many.
+    pub fn feed_reader(&mut self, packet: &[u8; 188]) -> Result<Came, PacketFault>
+        requires none { ready_sets self.old.collecting.sets ≡ [] }
+        ensures fault { MatchResult result
+            (λ _. packet_fault (reception self.old).pid packet.now ≡ None)
+            (λ fault. packet_fault (reception self.old).pid packet.now ≡ Some fault) }
+        ensures unchanged { IfErr result (λ _. self.new ≡ self.old) }
+        ensures stands { IfOk result (λ came.
+            (fed : List (List ℕ)) (given : List (Delivery (List ℕ)))
+            → HasBeenFed false fed given self.old
+            → HasToLose came.losses false (fed ++ packet.now ∷ []) given self.new) }
+        ensures event { IfOk result (λ came.
+            (fed : List (List ℕ)) (given : List (Delivery (List ℕ)))
+            → HasBeenFed false fed given self.old
+            → came.event ≡ event_at (reception self.old).pid (reception self.old).profile.coded fed
+            packet.now) }
+        ensures arrival { OnOk result ((fed : List (List ℕ)) (given : List (Delivery (List ℕ)))
+            → HasBeenFed false fed given self.old
+            → self.new.collecting.arrival ≡ packet_arrival (reception self.old).profile.coded
+            (reception self.old).pid (reception self.old).pages fed packet.now) }
+        ensures core { self.new.core ≡ self.old.core }
+        ensures load { self.new.load ≡ self.old.load }
+        ensures same { IsSameReception self.old self.new }
+    {
+        let read = self.reader.feed(packet)?;
+        Ok(read)
+    }
+
+    /// Tells the page memory of so many losses, of which it was not told: it forgets the page.
+    pub fn lose(&mut self, count: u32)
+        ensures stands { (ended : Bool) (fed : List (List ℕ)) (given : List (Delivery (List ℕ)))
+            → HasToLose count ended fed given self.old
+            → HasBeenFed ended fed (given ++ losses count) self.new }
+        ensures collecting { self.new.collecting ≡ self.old.collecting }
+        ensures load { self.new.load ≡ self.old.load }
+        ensures page { self.new.core.page ≡ self.old.core.page }
+        ensures same { IsSameReception self.old self.new }
+    {
+        lose(&mut self.core, count);
     }
 
     /// Whether a packet can be taken and is of another PID, as most packets of a stream are. To
@@ -262,6 +304,7 @@ impl SetReceiver {
         ensures left { ready_sets self.new.collecting.sets
             ≡ sets_behind (ready_sets self.old.collecting.sets) }
         ensures known { result ≡ Shown → self.new.core.known ≡ true }
+        ensures unchanged { (last : ℕ) → result ≡ NotLater last → self.new.core ≡ self.old.core }
         ensures arrival { self.new.collecting.arrival ≡ self.old.collecting.arrival }
         ensures page { self.new.core.page ≡ self.old.core.page }
         ensures same { IsSameReception self.old self.new }

@@ -7,7 +7,7 @@ ghost use Rattle.decoder_model.specs.Readings.{IsDeliveryRead, Reading};
 ghost use Rattle.decoder_model.specs.Received.{AreRead};
 ghost use Rattle.decoder_model.specs.Sets.{Delivery, refused, whole};
 ghost use Rattle.decoder_model.specs.Verdict.{verdict_of};
-ghost use Rattle.decoder_model.specs.declared.set_end.SetEnd.TheVariants.{Shown};
+ghost use Rattle.decoder_model.specs.declared.set_end.SetEnd.TheVariants.{NotLater, Shown};
 ghost use Rattle.display_sets.specs.Gathered.{HasFewBytes};
 ghost use Rattle.display_sets.specs.Lent.{lent};
 ghost use Rattle.display_sets.specs.Standing.{IsReady};
@@ -48,6 +48,7 @@ pub(crate) fn take(ready: Ready<'_>, core: &mut Core) -> Taken
         → IsMemoryAfter past core.old
         → Some result.load ≡ set_load core.old.profile core.old.anchor past one }
     ensures known { result.end ≡ Shown → core.new.known ≡ true }
+    ensures unchanged { (last : ℕ) → result.end ≡ NotLater last → core.new ≡ core.old }
     ensures bounded { IsBoundedLoad core.old.profile.coded result.load }
     ensures same { IsSameReceiver core.old core.new }
 {
