@@ -1,2 +1,3 @@
 -- What functions of this crate do inside: no other crate cites these.
+pub mod LastPictures
 pub mod Screens

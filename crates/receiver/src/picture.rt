@@ -1,7 +1,7 @@
 //! The pictures of a receiver: one plane each, made once, and drawn anew for each set that is
 //! shown.
 
-ghost use Rattle.std.specs.Prelude.{◌≡◌, ◌*◌, ◌≤◌, IfOk, List, None, Some, length, take, true, vec_len};
+ghost use Rattle.std.specs.Prelude.{◌≡◌, ◌*◌, ◌≤◌, IfOk, List, None, Some, false, length, take, true, vec_len};
 ghost use Rattle.decoder_model.specs.Readings.{Reading};
 ghost use Rattle.decoder_model.specs.Sets.{Delivery};
 ghost use Rattle.decoder_model.specs.Shown.{Standing, is_over_at, standing_after};
@@ -89,6 +89,18 @@ impl Picture {
         draw_front(rt, &scene, self.plane.as_mut_slice(), bands, gate);
     }
 
+    /// Shows nothing, from the time that it has.
+    pub(crate) fn hide(&mut self)
+        ensures slot { slot_of self.new
+            ≡ record { time = self.old.time; until = None; plane = None } }
+        ensures hidden { self.new.shown ≡ false }
+        ensures places { vec_len self.new.plane ≡ vec_len self.old.plane }
+        ensures inside { IsInPlane self.new }
+    {
+        self.until = None;
+        self.shown = false;
+    }
+
     /// Lends what is shown at a tick from the picture's time on.
     pub(crate) fn view(&self, tick: u64) -> View<'_>
         requires { IsInPlane self.now }
@@ -116,12 +128,11 @@ pub(crate) fn turn(current: &mut Picture, pending: &mut Picture, time: u64)
 {
     mem::swap(current, pending);
     pending.time = time;
-    pending.until = None;
-    pending.shown = false;
+    pending.hide();
 }
 
 /// Whether a time-out has come at a tick.
-fn is_over(until: Option<u64>, tick: u64) -> bool
+pub(crate) fn is_over(until: Option<u64>, tick: u64) -> bool
     ensures { result ≡ is_over_at tick until }
 {
     match until {
