@@ -1,7 +1,7 @@
 -- What a receiver at work tells is what it was asked for.
 use Rattle.std.proofs.Common.{◌≡◌, ◌∙◌, ℕ, Bool, List, subst}
 use Rattle.decoder_model.specs.Received.{Reception}
-use Rattle.receiver.specs.Receiving.{reception}
+use Rattle.receiver.specs.Asking.{reception}
 use Rattle.dump_text.specs.DumpText.{IsDumpText}
 use Rattle.dump_text.specs.Dumping.{Dumping, IsSameDump, dump_tells}
 

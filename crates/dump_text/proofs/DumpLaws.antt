@@ -16,8 +16,7 @@ use Rattle.reading_laws.proofs.PacketsRead.{packets_read}
 use Rattle.set_receiver.specs.Receiving.{AreLosses}
 use Rattle.set_receiver.specs.Taking.{AreAllBytes}
 use Rattle.set_receiver.proofs.TakenSets.{next_read, read_more}
-use Rattle.receiver.specs.Receiving.{IsNext, IsSame, Receiving, Stands, reception}
-use Rattle.receiver.specs.Taking.{AllTaken, HasNext}
+use Rattle.receiver.specs.Asking.{AllTaken, Asking, HasNext, IsNext, IsSame, Stands, reception}
 use Rattle.sub_base.specs.Endpoints.{Received}
 use Rattle.sub_base.specs.declared.profile.Profile.{Profile}
 use Rattle.packet_walk.specs.Told.{TellsOne}
@@ -28,7 +27,7 @@ use Rattle.dump_text.proofs.ToldLaws.{told_kept, told_same}
 
 -- ---- one more set
 
-module _ (old new : Receiving) (ticks : List ℕ) (told : ℕ) (at : Option ℕ)
+module _ (old new : Asking) (ticks : List ℕ) (told : ℕ) (at : Option ℕ)
     (has_next : HasNext old)
     (lifts : (packets : List (List ℕ)) (ended : Bool) (given rest : List (Delivery (List ℕ)))
     (next : Delivery (List ℕ)) (past : List (Delivery Reading)) (one : Delivery Reading)
@@ -130,7 +129,7 @@ module _ (old new : Receiving) (ticks : List ℕ) (told : ℕ) (at : Option ℕ)
 
 -- ---- several sets
 
-pub dumps_nothing : (shown : Received) (receiving : Receiving) (ticks : List ℕ) (told : ℕ) (buffer : Buffered)
+pub dumps_nothing : (shown : Received) (receiving : Asking) (ticks : List ℕ) (told : ℕ) (buffer : Buffered)
     → DumpsOn shown shown receiving receiving ticks told told buffer buffer
 dumps_nothing shown receiving ticks told buffer = record {
   goes =
@@ -143,7 +142,7 @@ dumps_nothing shown receiving ticks told buffer = record {
       );
 }
 
-pub dumps_both : (a b c : Received) (old mid new : Receiving) (ticks : List ℕ) (told next last : ℕ)
+pub dumps_both : (a b c : Received) (old mid new : Asking) (ticks : List ℕ) (told next last : ℕ)
     (was between is : Buffered) → DumpsOn a b old mid ticks told next was between
     → DumpsOn b c mid new ticks next last between is
     → DumpsOn a c old new ticks told last was is
@@ -175,7 +174,7 @@ unfolding last_time
 from_nothing anchor ticks k from within = omega arith
 
 -- nothing is told
-abbrev pub nothing_told : (receiving : Receiving) (ticks : List ℕ) → Stands false [] [] receiving
+abbrev pub nothing_told : (receiving : Asking) (ticks : List ℕ) → Stands false [] [] receiving
     → IsDumpTold false receiving ticks 0 [] []
 nothing_told receiving ticks stands = record {
   bytes = All-nil AreAllBytes;
@@ -225,7 +224,7 @@ told_lost profile anchor ticks told text (loss ∷ losses) given past within are
     )
 
 -- a packet that was fed
-pub fed_told : (old new : Receiving) (ticks : List ℕ) (told : ℕ) (packets : List (List ℕ))
+pub fed_told : (old new : Asking) (ticks : List ℕ) (told : ℕ) (packets : List (List ℕ))
     (packet text : List ℕ) → told ≤ length ticks → AreAllBytes packet → IsSame old new
     → ((fed : List (List ℕ)) (given : List (Delivery (List ℕ))) → Stands false fed given old
     → (losses : List (Delivery (List ℕ))) × AreLosses losses
@@ -247,7 +246,7 @@ fed_told old new ticks told packets packet text within bytes same feeds is =
     }
 
 -- a packet that was fed, and the sets that were taken then
-pub packet_told : (before now : Received) (old : Dumping) (mid new : Receiving) (next : ℕ) (was is : Buffered)
+pub packet_told : (before now : Received) (old : Dumping) (mid new : Asking) (next : ℕ) (was is : Buffered)
     (place : ℕ) (packet : List ℕ) → old.told ≤ length old.ticks → AreAllBytes packet → IsSame old.receiving mid
     → ((fed : List (List ℕ)) (given : List (Delivery (List ℕ))) → Stands false fed given old.receiving
     → (losses : List (Delivery (List ℕ))) × AreLosses losses
@@ -306,7 +305,7 @@ dumped_so_far dumping packets text has =
     }
 
 -- the text of the packets, where the stream has ended with them
-pub dumped_whole : (before mid now : Received) (old : Dumping) (fed new : Receiving) (next : ℕ)
+pub dumped_whole : (before mid now : Received) (old : Dumping) (fed new : Asking) (next : ℕ)
     (was between is : Buffered)
     → ((packets : List (List ℕ)) (given : List (Delivery (List ℕ))) → Stands false packets given old.receiving
     → Stands true packets given fed)

@@ -1,22 +1,25 @@
 -- The texts of ticks from a place on.
 use Rattle.std.proofs.Common.{◌≡◌, ◌∙◌, ℕ, zero, suc, ◌+◌, ◌<◌, ◌≤◌, true, false, List, [], ◌∷◌, ◌++◌, length, take, drop, get_or, append-nil, ◌⊎◌, inl, inr, refl, sym, ap, subst, arith}
-use Rattle.std.specs.Prelude.{filter, max, nat_lt}
+use Rattle.std.specs.Prelude.{filter, max, nat_lt, unwrap_or}
 use Rattle.std.specs.List.{flat_map}
 use Rattle.std.specs.List.Sorted.{IsStrictlyIncreasing}
 use Rattle.std.proofs.lemmas.Bool.Decides.{nat_tests}
 use Rattle.std.proofs.lemmas.List.{drop-append-le, length-take-le, take-append-drop, take_more}
 use Rattle.std.proofs.lemmas.List.Concat.{flat_map-append}
 use Rattle.std.proofs.lemmas.List.Kept.{AllPairs-from_increasing}
+use Rattle.decoder_model.specs.Kept.{last_time}
 use Rattle.decoder_model.specs.Readings.{Reading}
+use Rattle.decoder_model.specs.Received.{Reception}
 use Rattle.decoder_model.specs.Sets.{Delivery}
 use Rattle.decoder_model.specs.Shown.{view_at}
 use Rattle.command_text.specs.Putting.{Buffered, PutsOut}
 use Rattle.command_text.proofs.PutLaws.{PutsOut-both, PutsOut-nothing}
-use Rattle.receiver.specs.Receiving.{Receiving}
+use Rattle.receiver.specs.Asking.{Asking, KeepsSets}
+use Rattle.receiver.proofs.Asks.{same_kept}
 use Rattle.sub_base.specs.Endpoints.{Received}
 use Rattle.sub_base.specs.declared.profile.Profile.{Profile}
 use Rattle.dump_text.specs.DumpText.{shown_text, view_text}
-use Rattle.dump_text.specs.Dumping.{AreBefore, AreFrom, PutsBetween, PutsShown, ticks_between}
+use Rattle.dump_text.specs.Dumping.{AreBefore, AreFrom, PutsAsked, PutsBetween, ticks_between}
 
 -- ---- ticks between two places
 
@@ -136,22 +139,33 @@ no_earlier tick other later is less = grind (arith, nat_tests)
 
 -- ---- what is put out
 
+-- what is put out of a receiver that has drawn something is of what it was
+asked_before : (old mid : Asking) (before now : Received) (was is : Buffered) (tick : ℕ) → KeepsSets old mid
+    → PutsAsked mid before now was is tick → PutsAsked old before now was is tick
+asked_before old mid before now was is tick keeps puts ended packets given past stands read from =
+    let same = same_kept old mid keeps in
+    subst
+    (λ (made : Reception). PutsOut before now was is
+    (view_text tick (view_at made.profile made.anchor tick past))) same
+    (puts ended packets given past (keeps.stands ended packets given stands) read
+    (subst (λ (made : Reception). unwrap_or (last_time made.anchor past) 0 ≤ tick) (sym same) from))
+
 -- what is shown at one more tick
-pub puts_more : (receiving : Receiving) (before mid now : Received) (was between is : Buffered) (ticks : List ℕ)
-    (first place : ℕ) → first ≤ place → place < length ticks
-    → PutsBetween receiving before mid was between ticks first place
-    → PutsShown receiving mid now between is (get_or ticks place 0)
-    → PutsBetween receiving before now was is ticks first (place + 1)
-puts_more receiving before mid now was between is ticks first place next within puts shown ended packets given past
-    stands read from =
+pub puts_more : (old mid : Asking) (before between now : Received) (was middle is : Buffered) (ticks : List ℕ)
+    (first place : ℕ) → KeepsSets old mid → first ≤ place → place < length ticks
+    → PutsBetween old before between was middle ticks first place
+    → PutsAsked mid between now middle is (get_or ticks place 0)
+    → PutsBetween old before now was is ticks first (place + 1)
+puts_more old mid before between now was middle is ticks first place keeps next within puts asked ended packets given
+    past stands read from =
     subst (λ (text : List ℕ). PutsOut before now was is text)
-    (sym (text_more receiving.showing.core.profile receiving.showing.core.anchor past first place ticks next
-    within))
-    (PutsOut-both before mid now was between is _ _ (puts ended packets given past stands read from)
-    (shown ended packets given past stands read (from place next within)))
+    (sym (text_more old.showing.core.profile old.showing.core.anchor past first place ticks next within))
+    (PutsOut-both before between now was middle is _ _ (puts ended packets given past stands read from)
+    (asked_before old mid between now middle is (get_or ticks place 0) keeps asked ended packets given past stands read
+    (from place next within)))
 
 -- nothing
-pub puts_none : (receiving : Receiving) (shown : Received) (buffer : Buffered) (ticks : List ℕ) (first : ℕ)
+pub puts_none : (receiving : Asking) (shown : Received) (buffer : Buffered) (ticks : List ℕ) (first : ℕ)
     → PutsBetween receiving shown shown buffer buffer ticks first first
 puts_none receiving shown buffer ticks first ended packets given past stands read from =
     subst (λ (ticks : List ℕ). PutsOut shown shown buffer buffer

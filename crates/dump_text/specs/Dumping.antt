@@ -10,7 +10,8 @@ use Rattle.decoder_model.specs.Sets.{Delivery}
 use Rattle.decoder_model.specs.Shown.{view_at}
 use Rattle.display_sets.specs.Gathered.{ready_sets}
 use Rattle.set_receiver.specs.Taking.{AreAllBytes}
-use Rattle.receiver.specs.Receiving.{IsSame, Receiving, Stands, reception}
+use Rattle.receiver.specs.Asking.{Asking, IsSame, Stands, reception}
+use Rattle.receiver.specs.Receiving as pictured
 use Rattle.sub_base.specs.Endpoints.{Received}
 use Rattle.sub_base.specs.declared.profile.Profile.{Profile}
 use Rattle.dump_text.specs.DumpText.{IsDumpText, shown_text, view_text}
@@ -33,7 +34,7 @@ ticks_between first next ticks = drop first (take next ticks)
 
 -- a receiver that draws in so many bands, the asked ticks, and how many of them were told
 pub record Dumping : Type 0 where
-  pub receiving : Receiving
+  pub receiving : Asking
   pub bands : ℕ
   pub ticks : List ℕ
   pub told : ℕ
@@ -67,7 +68,7 @@ pub record IsToldOf (profile : Profile) (anchor : ℕ) (ticks : List ℕ) (told 
 
 -- the receiver was fed the packets, which are of bytes; the stream ends with them or not; and the text is of the first
 -- so many ticks, which they settle
-pub record IsDumpTold (ended : Bool) (receiving : Receiving) (ticks : List ℕ) (told : ℕ) (packets : List (List ℕ))
+pub record IsDumpTold (ended : Bool) (receiving : Asking) (ticks : List ℕ) (told : ℕ) (packets : List (List ℕ))
     (text : List ℕ) : Type 0 where
   pub bytes : All AreAllBytes packets
   pub given : List (Delivery (List ℕ))
@@ -76,9 +77,20 @@ pub record IsDumpTold (ended : Bool) (receiving : Receiving) (ticks : List ℕ) 
   pub read : AreDeliveriesRead (reverse given) past
   pub of : IsToldOf (reception receiving).profile (reception receiving).anchor ticks told past text
 
--- what is shown at a tick that is no earlier than the kept sets is put out
-abbrev pub PutsShown : Receiving → Received → Received → Buffered → Buffered → ℕ → Type 0
+-- what a receiver shows at a tick that is no earlier than the kept sets is put out
+abbrev pub PutsShown : pictured.Receiving → Received → Received → Buffered → Buffered → ℕ → Type 0
 PutsShown receiving before now was is tick =
+    (ended : Bool) (packets : List (List ℕ)) (given : List (Delivery (List ℕ)))
+    (past : List (Delivery Reading))
+    → pictured.Stands ended packets given receiving → AreDeliveriesRead (reverse given) past
+    → unwrap_or (last_time (pictured.reception receiving).anchor past) 0 ≤ tick
+    → PutsOut before now was is
+    (view_text tick
+    (view_at (pictured.reception receiving).profile (pictured.reception receiving).anchor tick past))
+
+-- and of one that draws what it is asked for
+abbrev pub PutsAsked : Asking → Received → Received → Buffered → Buffered → ℕ → Type 0
+PutsAsked receiving before now was is tick =
     (ended : Bool) (packets : List (List ℕ)) (given : List (Delivery (List ℕ)))
     (past : List (Delivery Reading))
     → Stands ended packets given receiving → AreDeliveriesRead (reverse given) past
@@ -88,7 +100,7 @@ PutsShown receiving before now was is tick =
 
 -- what is shown at the ticks from a place on, up to another one, is put out, where these are no earlier than the
 -- kept sets
-abbrev pub PutsBetween : Receiving → Received → Received → Buffered → Buffered → List ℕ → ℕ → ℕ
+abbrev pub PutsBetween : Asking → Received → Received → Buffered → Buffered → List ℕ → ℕ → ℕ
     → Type 0
 PutsBetween receiving before now was is ticks first next = (ended : Bool) (packets : List (List ℕ))
     (given : List (Delivery (List ℕ))) (past : List (Delivery Reading))
@@ -99,7 +111,7 @@ PutsBetween receiving before now was is ticks first next = (ended : Bool) (packe
 
 -- the texts were put out of the ticks from a place on that are before a time, and the next place is that of the first
 -- one from it on
-pub record SettlesBefore (receiving : Receiving) (before now : Received) (was is : Buffered) (ticks : List ℕ)
+pub record SettlesBefore (receiving : Asking) (before now : Received) (was is : Buffered) (ticks : List ℕ)
     (told next time : ℕ) : Type 0 where
   pub from : told ≤ next
   pub within : next ≤ length ticks
@@ -114,14 +126,14 @@ pub record SettlesNothing (before now : Received) (was is : Buffered) (told next
   pub same_told : next ≡ told
 
 -- the ticks that a set with that lifted time settles were told: none, where it is not kept
-abbrev pub Settles : Receiving → Received → Received → Buffered → Buffered → List ℕ → ℕ → ℕ
+abbrev pub Settles : Asking → Received → Received → Buffered → Buffered → List ℕ → ℕ → ℕ
     → Option ℕ → Type 0
 Settles receiving before now was is ticks told next None = SettlesNothing before now was is told next
 Settles receiving before now was is ticks told next (Some time) =
     SettlesBefore receiving before now was is ticks told next time
 
 -- sets were taken, and the texts of the ticks that they settle were put out
-pub record DumpsOn (before now : Received) (old new : Receiving) (ticks : List ℕ) (told next : ℕ)
+pub record DumpsOn (before now : Received) (old new : Asking) (ticks : List ℕ) (told next : ℕ)
     (was is : Buffered)
     : Type 0 where
   pub goes : (ended : Bool) (packets : List (List ℕ)) (text : List ℕ) → IsDumpTold ended old ticks told packets text

@@ -4,8 +4,7 @@ ghost use Rattle.std.specs.Prelude.{◌≡◌, ◌≤◌, IsSome, [], length};
 ghost use Rattle.std.specs.List.Sorted.{IsStrictlyIncreasing};
 ghost use Rattle.display_sets.specs.Gathered.{first_ready, ready_sets, sets_behind};
 ghost use Rattle.dump_text.specs.DumpText.{anchor_of};
-ghost use Rattle.receiver.specs.Receiving.{IsSame};
-ghost use Rattle.receiver.specs.Taking.{AllTaken, HasNext};
+ghost use Rattle.receiver.specs.Asking.{AllTaken, HasNext, IsSame, KeepsSets};
 ghost use Rattle.dump_text.specs.Dumping.{DumpsOn, Settles};
 
 use crate::pictures::{put_before, put_rest};
@@ -13,7 +12,7 @@ use command_text::TextBuffer;
 use decoder_model::Pages;
 use packet_source::PacketSource;
 use packet_walk::{Refused, WalkEnd};
-use receiver::Receiver;
+use receiver::AskedReceiver;
 use std::alloc::Global;
 use std::marker::Model;
 use std::thread::Threads;
@@ -22,10 +21,12 @@ use sub_base::{BandGate, NoMemory, Profile, Sink, Source};
 
 /// A receiver, and the ticks at which it is to be told what it shows. The text of a tick is put out
 /// as soon as a set with a later time is there, and those of the others at the end of the stream.
+/// So the page memory has what is shown at a tick that is told, and a picture is drawn for a tick
+/// that is asked for.
 #[derive(Drop)]
 pub struct Dump<'a> {
     bands: u32,
-    receiver: Receiver,
+    receiver: AskedReceiver,
     /// The asked ticks, which rise, and how many of them were told.
     ticks: &'a [u64],
     told: usize,
@@ -63,7 +64,7 @@ impl<'a> Dump<'a> {
     ghost use Rattle.packet_walk.specs.Walking.{IsEnd};
     ghost use Rattle.stream_syntax.specs.TransportPackets.{packet_fault};
     ghost use Rattle.sub_base.specs.Endpoints.{Supplied};
-    ghost use Rattle.receiver.specs.Receiving.{reception};
+    ghost use Rattle.receiver.specs.Asking.{reception};
     ghost use Rattle.dump_text.specs.DumpText.{IsDumpText, asked_for};
     ghost use Rattle.dump_text.specs.Dumping.{AreAsked, HasDumped, IsSameDump};
 
@@ -89,7 +90,7 @@ impl<'a> Dump<'a> {
     {
         Ok(Dump {
             bands,
-            receiver: Receiver::of_pages(alloc, profile, pid, pages, anchor(ticks))?,
+            receiver: AskedReceiver::make(alloc, profile, pid, pages, anchor(ticks))?,
             ticks,
             told: 0,
         })
@@ -205,7 +206,7 @@ impl<'a> Dump<'a> {
             (K.received out.new)
             self.old self.new buffer.old buffer.new) }
     {
-        self.receiver.feed(packet)?;
+        self.receiver.feed(rt, self.bands, gate, packet)?;
         self.told = take_ready(
             rt,
             gate,
@@ -244,7 +245,16 @@ impl<'a> Dump<'a> {
             self.ticks,
             self.told,
         );
-        put_rest(out, buffer, &self.receiver, self.ticks, self.told);
+        put_rest(
+            rt,
+            gate,
+            self.bands,
+            out,
+            buffer,
+            &mut self.receiver,
+            self.ticks,
+            self.told,
+        );
     }
 }
 
@@ -266,7 +276,7 @@ fn take_ready<R: Threads + Sync, G: BandGate + Sync, K: Sink>(
     bands: u32,
     out: &mut K,
     buffer: &mut TextBuffer,
-    receiver: &mut Receiver,
+    receiver: &mut AskedReceiver,
     ticks: &[u64],
     told: usize,
 ) -> usize
@@ -295,7 +305,7 @@ fn take_next<R: Threads + Sync, G: BandGate + Sync, K: Sink>(
     bands: u32,
     out: &mut K,
     buffer: &mut TextBuffer,
-    receiver: &mut Receiver,
+    receiver: &mut AskedReceiver,
     ticks: &[u64],
     told: usize,
 ) -> usize
@@ -312,32 +322,38 @@ fn take_next<R: Threads + Sync, G: BandGate + Sync, K: Sink>(
     ensures same { IsSame receiver.old receiver.new }
 {
     let time = receiver.ready_at();
-    let told = put_settled(out, buffer, receiver, ticks, told, time);
-    receiver.take(rt, bands, gate);
+    let told = put_settled(rt, gate, bands, out, buffer, receiver, ticks, told, time);
+    receiver.take();
     told
 }
 
 /// Puts out the texts of the ticks from a place on that a set with that lifted time settles: those
 /// before it, since what is shown then does not change with the set. Answers how many ticks were
 /// told.
-fn put_settled<K: Sink>(
+fn put_settled<R: Threads + Sync, G: BandGate + Sync, K: Sink>(
+    rt: &R,
+    gate: &G,
+    bands: u32,
     out: &mut K,
     buffer: &mut TextBuffer,
-    receiver: &Receiver,
+    receiver: &mut AskedReceiver,
     ticks: &[u64],
     told: usize,
     time: Option<u64>,
 ) -> usize
+    requires some { 1 ≤ bands }
+    requires few { bands ≤ 64 }
     requires rising { IsStrictlyIncreasing ticks.now }
     requires within { told ≤ length ticks.now }
-    ensures settles { Settles receiver.now
+    ensures settles { Settles receiver.old
         (K.received out.old)
         (K.received out.new)
         buffer.old buffer.new ticks.now told result time }
     ensures within { result ≤ length ticks.now }
+    ensures keeps { KeepsSets receiver.old receiver.new }
 {
     match time {
         None => told,
-        Some(time) => put_before(out, buffer, receiver, ticks, told, time),
+        Some(time) => put_before(rt, gate, bands, out, buffer, receiver, ticks, told, time),
     }
 }

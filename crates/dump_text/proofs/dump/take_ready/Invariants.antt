@@ -1,6 +1,6 @@
 use Rattle.std.proofs.Common.{◌≤◌, length}
 use Rattle.display_sets.specs.Gathered.{ready_sets}
-use Rattle.receiver.specs.Receiving.{IsSame}
+use Rattle.receiver.specs.Asking.{IsSame}
 use Rattle.dump_text.specs.Dumping.{DumpsOn}
 use Rattle.dump_text.proofs.dump.take_ready.Given as goal
 

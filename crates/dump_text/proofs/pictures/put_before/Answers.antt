@@ -1,6 +1,7 @@
 use Rattle.std.proofs.Common.{◌≡◌, ◌≤◌, ◌<◌, get_or, length, subst, arith}
 use Rattle.std.proofs.lemmas.Bool.Decides.{nat_tests}
 use Rattle.dump_text.specs.Dumping.{PutsBetween}
+use Rattle.receiver.proofs.Asks.{keeps_both, keeps_itself}
 use Rattle.dump_text.proofs.TextLaws.{before_more, from_the_first, puts_more, puts_none}
 use Rattle.dump_text.proofs.pictures.put_before.Goals as goal
 
@@ -9,6 +10,7 @@ loop-place-init g c = record {
   next = omega arith;
   within = c.requires.within;
   before = λ k from less. absurd (omega arith);
+  keeps = keeps_itself c.args.receiver.now;
   puts =
       puts_none c.args.receiver.now (g.K.Sink.received c.args.out.now) c.args.buffer.now c.args.ticks.now c.args.first;
 }
@@ -27,10 +29,13 @@ loop-place-preserved g c =
       next = omega (arith, c.loop-place.invariant.next);
       within = omega (arith, c.loop-place-test.true);
       before = before_more c.args.ticks.now c.args.end c.args.first c.loop-place.place c.loop-place.invariant.before at;
+      keeps =
+          keeps_both c.args.receiver.now c.loop-place.receiver c.put_asked.new.receiver c.loop-place.invariant.keeps
+          c.put_asked.ensures.keeps;
       puts =
-          puts_more c.args.receiver.now _ _ _ c.args.buffer.now c.loop-place.buffer c.put_shown.new.buffer
-          c.args.ticks.now c.args.first c.loop-place.place
-          c.loop-place.invariant.next c.loop-place-test.true c.loop-place.invariant.puts c.put_shown.ensures;
+          puts_more c.args.receiver.now c.loop-place.receiver _ _ _ c.args.buffer.now c.loop-place.buffer
+          c.put_asked.new.buffer c.args.ticks.now c.args.first c.loop-place.place c.loop-place.invariant.keeps
+          c.loop-place.invariant.next c.loop-place-test.true c.loop-place.invariant.puts c.put_asked.ensures.puts;
     }
 
 pub returns-clause-puts : goal.returns-clause-puts

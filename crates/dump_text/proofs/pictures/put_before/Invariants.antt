@@ -1,4 +1,5 @@
 use Rattle.std.proofs.Common.{◌≤◌, length}
+use Rattle.receiver.specs.Asking.{KeepsSets}
 use Rattle.dump_text.specs.Dumping.{AreBefore, PutsBetween}
 use Rattle.dump_text.proofs.pictures.put_before.Given as goal
 
@@ -8,7 +9,8 @@ invariant-loop-place g l =
       next : l.fn.first ≤ l.place;
       within : l.place ≤ length l.ticks;
       before : AreBefore l.end l.fn.first l.place l.ticks;
-      puts : PutsBetween l.receiver
+      keeps : KeepsSets l.fn.receiver l.receiver;
+      puts : PutsBetween l.fn.receiver
           (g.K.Sink.received l.fn.out)
           (g.K.Sink.received l.out)
           l.fn.buffer l.buffer l.ticks l.fn.first l.place;

@@ -4,7 +4,7 @@ use Rattle.packet_walk.proofs.CloseLaws.{closed}
 use Rattle.packet_walk.proofs.EndLaws.{end_told}
 use Rattle.packet_walk.specs.Closing.{is_whole_end}
 use Rattle.packet_walk.specs.ToldEnds.{IsToldEnd}
-use Rattle.receiver.specs.Receiving.{reception}
+use Rattle.receiver.specs.Asking.{reception}
 use Rattle.dump_text.proofs.AskedLaws.{tells_as_asked}
 use Rattle.dump_text.specs.DumpText.{IsDumpText, asked_for}
 use Rattle.dump_text.specs.Dumping.{dump_tells}

@@ -1,6 +1,6 @@
 use Rattle.std.proofs.Common.{◌++◌, ℕ, List, true, subst}
 use Rattle.command_text.specs.Putting.{PutsOut}
-use Rattle.receiver.specs.Receiving.{reception}
+use Rattle.receiver.specs.Asking.{reception}
 use Rattle.dump_text.specs.DumpText.{IsDumpText}
 use Rattle.dump_text.specs.Dumping.{Dumping, HasDumped}
 use Rattle.dump_text.proofs.DumpLaws.{dumped_whole}
@@ -19,4 +19,4 @@ returns g c =
     c.args.buffer.now c.take_ready-self-inside.new.buffer c.put_rest.new.buffer
     c.finish.ensures.stands c.finish.ensures.same c.take_ready-self-inside.ensures.dumps
     c.take_ready-self-inside.ensures.same c.take_ready-self-inside.ensures.all
-    c.take_ready-self-inside.ensures.within c.put_rest.ensures)
+    c.take_ready-self-inside.ensures.within c.put_rest.ensures.puts)
