@@ -1,3 +1,4 @@
 pub mod CheckText
 pub mod Checking
 pub mod Courses
+pub mod Others

@@ -5,8 +5,10 @@
 
 mod calls;
 mod check;
+mod laws;
 mod lines;
 mod set_meter;
 
 pub use check::Check;
+pub use laws::other_pids_are_not_metered;
 pub use set_meter::SetMeter;

@@ -8,8 +8,9 @@ use Rattle.command_text.proofs.PutLaws.{PutsOut-nothing}
 use Rattle.decoder_model.specs.Received.{Reception}
 use Rattle.packet_source.specs.declared.limits.TheConstants.{STREAM_LIMIT}
 use Rattle.packet_walk.specs.Told.{HasTaken, TellsOne}
-use Rattle.service_tables.specs.Clock.{clock_pid}
+use Rattle.service_tables.specs.Clock.{clock_among, clock_pid}
 use Rattle.service_tables.specs.Reading.{HasRead}
+use Rattle.service_tables.specs.Tables.{programme_maps}
 use Rattle.stream_syntax.specs.declared.transport.PacketFault.{PacketFault}
 use Rattle.sub_base.specs.Endpoints.{Received}
 use Rattle.level_text.specs.ClockText.{IsClockText}
@@ -51,7 +52,7 @@ samples_more pid before (first ∷ packets) packet =
 
 -- all packets stand in the stream
 pub few_followed : (followed : Following) (place : ℕ) → HasTaken HasFollowed followed place → place < STREAM_LIMIT
-    → followed.levels.since + length followed.levels.held < STREAM_LIMIT
+    → followed.levels.since + followed.levels.waiting < STREAM_LIMIT
 few_followed followed place taken small =
     let told = taken.told in
     omega (
@@ -69,8 +70,9 @@ pub one_followed : (before now : Received) (old new : Following) (was is : Buffe
     → TakesSampled before now old.levels new.levels was is (sample_by old.clock packet) packet
     → new.levels.meter.asked ≡ old.levels.meter.asked
     → ((packets : List (List ℕ)) → HasRead old.programmes packets → HasRead new.programmes (packets ++ packet ∷ []))
-    → ((packets : List (List ℕ)) → new.programmes.is_wanting ≡ false → HasRead new.programmes packets
-    → new.clock ≡ option_or old.clock (clock_pid packets old.levels.meter.asked.pid))
+    → ((packets : List (List ℕ)) → new.programmes.is_wanting ≡ false → HasRead old.programmes packets
+    → old.clock ≡ first_clock old.levels.meter.asked.pid [] packets
+    → new.clock ≡ option_or old.clock (clock_pid (packets ++ packet ∷ []) old.levels.meter.asked.pid))
     → TellsOne HasFollowed before now old new was is place packet
 one_followed before now old new was is place packet found takes same reads asks = record {
   goes = λ packets text. λ count has.
@@ -95,7 +97,7 @@ one_followed before now old new was is place packet found takes same reads asks 
           none = λ _. refl;
           read = λ _. reads packets (has.read found);
           clock = λ still.
-              asks (packets ++ packet ∷ []) still (reads packets (has.read found))
+              asks packets still (has.read found) own_clock
               ∙ ap (λ (clock : Option ℕ). option_or clock (clock_pid (packets ++ packet ∷ []) pid)) own_clock
               ∙ sym (clock_more pid [] packets packet)
               ∙ ap (λ (n : ℕ). first_clock n [] (packets ++ packet ∷ [])) own_pid;
@@ -134,6 +136,27 @@ one_passed shown followed buffer place packet wanting = record {
 pub on_ok_of : {X : Type 0} (result : Result (Unit {0}) PacketFault) → X → OnOk result X
 on_ok_of (Ok x) told = told
 on_ok_of (Err fault) told = tt
+
+-- where none was told before packets, none is told before the last of them
+told_before : (pid : ℕ) (before packets : List (List ℕ)) → first_clock pid before packets ≡ None
+    → clock_pid (before ++ packets) pid ≡ None
+told_before pid before [] none = ap (λ (all : List (List ℕ)). clock_pid all pid) (append-nil before) ∙ none
+told_before pid before (packet ∷ packets) none =
+    ap (λ (all : List (List ℕ)). clock_pid all pid) (sym (append_assoc before (packet ∷ []) packets))
+    ∙ told_before pid (before ++ packet ∷ []) packets (rest_none (clock_pid before pid) none)
+  where
+    rest_none : (first : Option ℕ) → option_or first (first_clock pid (before ++ packet ∷ []) packets) ≡ None
+        → first_clock pid (before ++ packet ∷ []) packets ≡ None
+    rest_none None none = none
+    rest_none (Some clock) none = absurd (cc)
+
+-- where no table came, no clock is told that was not
+pub clock_same : (clock : Option ℕ) (pid : ℕ) (packets : List (List ℕ)) (packet : List ℕ)
+    → clock ≡ first_clock pid [] packets
+    → programme_maps (packets ++ packet ∷ []) ≡ programme_maps packets
+    → clock ≡ option_or clock (clock_pid (packets ++ packet ∷ []) pid)
+clock_same None pid packets packet is same = sym (ap (clock_among pid) same ∙ told_before pid [] packets (sym is))
+clock_same (Some clock) pid packets packet is same = refl
 
 -- the clock is asked for where none is known
 pub clock_asked : (clock answer told : Option ℕ) → is_some clock ≡ false → answer ≡ told → answer ≡ option_or clock told
@@ -210,16 +233,16 @@ pub told_of_front : (followed : Following) (packets : List (List ℕ)) (text : L
     → followed.levels.meter.is_wanting ≡ false → HasFollowed followed packets text → FrontTold followed packets text
 told_of_front followed packets text found has =
     let pid = followed.levels.meter.asked.pid in
-    let held = followed.levels.held in
+    let behind = has.clocked.behind in
     let known : has.clocked.known ≡ samples_of pid has.clocked.taken =
     fronts_same has.clocked.known (samples_of pid has.clocked.taken) _ _
     (has.clocked.matched ∙ sym (one_each pid [] has.clocked.taken))
-    (sym has.clocked.carried ∙ ap (samples_of pid) has.clocked.all ∙ behind_both pid [] has.clocked.taken held) in
+    (sym has.clocked.carried ∙ ap (samples_of pid) has.clocked.all ∙ behind_both pid [] has.clocked.taken behind) in
     record {
       front = has.clocked.taken;
-      others = held ++ has.passed;
+      others = behind ++ has.passed;
       all = has.all ∙ ap (λ (front : List (List ℕ)). front ++ has.passed) has.clocked.all
-          ∙ append_assoc has.clocked.taken held has.passed;
+          ∙ append_assoc has.clocked.taken behind has.passed;
       told =
           subst (λ (samples : List (Option ℕ)). IsClockText samples followed.levels.meter.asked false has.clocked.taken
           text) known

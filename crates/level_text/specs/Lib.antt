@@ -2,6 +2,7 @@ pub mod Anchoring
 pub mod ClockText
 pub mod Clocking
 pub mod Following
+pub mod Held
 pub mod LevelText
 pub mod Levelling
 pub mod ProgrammeClock

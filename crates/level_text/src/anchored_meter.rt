@@ -7,13 +7,16 @@ ghost use Rattle.set_receiver.specs.Receiving.{reception};
 ghost use Rattle.sub_base.specs.Profile.{IsProfile};
 ghost use Rattle.level_text.specs.declared.anchored_meter.TheConstants.{LATEST_ANCHOR};
 
+use crate::held::{HeldPacket, Run, take_held};
 use buffer_model::Levels;
 use check_text::SetMeter;
 use command_text::TextBuffer;
 use decoder_model::Pages;
+use pcr_clock::tick_between;
 use std::alloc::Global;
 use std::marker::Model;
 use sub_base::{NoMemory, Profile, Sink};
+use ts_packets::is_of_pid;
 
 /// The latest tick at which lifted times may begin: clocks count ticks of 90 kHz in 33 bits.
 pub const LATEST_ANCHOR: u64 = 8_589_934_591;
@@ -50,11 +53,14 @@ impl Model for AnchoredMeter {
 }
 
 impl AnchoredMeter {
-    ghost use Rattle.std.specs.Prelude.{◌≡◌, ◌<◌, ◌≤◌, ◌^◌, ◌++◌, ℕ, List, [], ◌∷◌};
-    ghost use Rattle.std.specs.Prelude.{None, false, true};
+    ghost use Rattle.std.specs.Prelude.{◌≡◌, ◌+◌, ◌<◌, ◌≤◌, ◌^◌, ◌++◌, ℕ, List, [], ◌∷◌};
+    ghost use Rattle.std.specs.Prelude.{IfSome, None, false, true};
+    ghost use Rattle.pcr_clock.specs.Arrivals.{IsBehind, last_tick, ticks_of_run};
+    ghost use Rattle.pcr_clock.specs.declared.sample.TheConstants.{CLOCK_LIMIT};
     ghost use Rattle.stream_syntax.specs.TransportPackets.{packet_fault};
     ghost use Rattle.sub_base.specs.Profile.{IsProfile};
     ghost use Rattle.level_text.specs.Anchoring.{FinishesTimed, HasBegun, HasTimed, TakesTimed, last_told};
+    ghost use Rattle.level_text.specs.Held.{AreHeld, IsRun, end_tick};
 
     /// What is to be a receiver of a profile, with or without a step, for a PID and these pages, to
     /// which no packet came. Its memory is taken with the first.
@@ -90,8 +96,33 @@ impl AnchoredMeter {
     }
 
     /// Takes the next packet, which can be taken and arrives at that tick, and puts out the lines
-    /// of the sets that come with it.
+    /// of the sets that come with it. A packet of another PID brings nothing.
     pub(crate) fn take<K: Sink>(
+        &mut self,
+        out: &mut K,
+        buffer: &mut TextBuffer,
+        tick: u64,
+        packet: &[u8; 188],
+    )
+        requires later { last_told self.old.sets ≤ tick }
+        requires small { tick < 2 ^ 62 }
+        requires right { packet_fault self.old.asked.pid packet.now ≡ None }
+        ensures asked { self.new.asked ≡ self.old.asked }
+        ensures last { last_told self.new.sets ≤ tick }
+        ensures told { TakesTimed
+            (K.received out.old)
+            (K.received out.new)
+            self.old self.new buffer.old buffer.new (tick ∷ []) (packet.now ∷ []) }
+    {
+        if is_of_pid(self.pid, packet) {
+            self.take_own(out, buffer, tick, packet);
+        } else {
+            self.begin(tick);
+        }
+    }
+
+    /// The same of a packet of whatever PID.
+    fn take_own<K: Sink>(
         &mut self,
         out: &mut K,
         buffer: &mut TextBuffer,
@@ -111,6 +142,41 @@ impl AnchoredMeter {
         self.begin(tick);
         if let Some(mut sets) = self.sets.take() {
             let _taken = sets.take(out, buffer, tick, packet);
+            self.sets = Some(sets);
+        }
+    }
+
+    /// Takes the packets of a run, of which those of the PID are held, and puts out the lines of the
+    /// sets that come with them.
+    pub(crate) fn take_run<K: Sink>(
+        &mut self,
+        out: &mut K,
+        buffer: &mut TextBuffer,
+        run: Run,
+        held: &[HeldPacket],
+    )
+        requires last { IfSome run.last (λ time. time < CLOCK_LIMIT) }
+        requires next { IfSome run.next (λ next. next.time < CLOCK_LIMIT) }
+        requires behind { IsBehind run.last run.next }
+        requires within { IfSome run.next (λ next. run.since + run.count ≤ next.behind) }
+        requires held { AreHeld self.old.asked.pid run.since (run.since + run.count) held.now }
+        requires later { last_told self.old.sets ≤ last_tick run.last }
+        ensures asked { self.new.asked ≡ self.old.asked }
+        ensures last { last_told self.new.sets ≤ end_tick run.last run.next }
+        ensures told { (packets : List (List ℕ))
+            → IsRun self.old.asked.pid run.since run.count held.now packets
+            → TakesTimed
+            (K.received out.old)
+            (K.received out.new)
+            self.old self.new buffer.old buffer.new
+            (ticks_of_run run.last run.since run.count run.next) packets }
+    {
+        if run.count == 0 {
+            return;
+        }
+        self.begin(tick_between(run.last, run.since, run.next));
+        if let Some(mut sets) = self.sets.take() {
+            take_held(out, buffer, &mut sets, run, held);
             self.sets = Some(sets);
         }
     }

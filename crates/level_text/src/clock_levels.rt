@@ -1,7 +1,7 @@
 //! What tells of the sets and levels of a stream whose packets arrive by the samples of a clock.
 
 use crate::anchored_meter::AnchoredMeter;
-use crate::held::take_held;
+use crate::held::{HeldPacket, Run, hold_own};
 use crate::packet_check::check_packet;
 use command_text::TextBuffer;
 use decoder_model::Pages;
@@ -13,13 +13,15 @@ use sub_base::{NoMemory, Profile, Sink};
 
 /// A receiver without pictures, with a meter of its coded data buffer, to which packets come by the
 /// samples of a clock that some of them carry: evenly between two samples (ISO/IEC 13818-1,
-/// 2.4.2.2). So packets are held until the next sample comes, or until it is too far for that.
+/// 2.4.2.2). So packets wait until the next sample comes, or until it is too far for that: they are
+/// counted, and those of the receiver's PID among them, which alone bring it anything, are held.
 #[derive(Drop)]
 pub struct ClockLevels {
     meter: AnchoredMeter,
-    held: Vec<[u8; 188]>,
+    held: Vec<HeldPacket>,
     last: Option<u64>,
     since: u64,
+    waiting: u64,
 }
 
 impl Model for ClockLevels {
@@ -34,6 +36,7 @@ impl Model for ClockLevels {
       held = c.held.items;
       last = c.last;
       since = c.since;
+      waiting = c.waiting;
     } };
 
     ghost invariant = { λ c. IsClocking (record {
@@ -41,19 +44,21 @@ impl Model for ClockLevels {
       held = c.held.items;
       last = c.last;
       since = c.since;
+      waiting = c.waiting;
     })
         × (MOST_BETWEEN ≤ vec_capacity c.held) };
 }
 
 impl ClockLevels {
-    ghost use Rattle.std.specs.Prelude.{◌≡◌, ◌+◌, ◌<◌, ◌≤◌, [], false, length};
+    ghost use Rattle.std.specs.Prelude.{◌≡◌, ◌+◌, ◌<◌, ◌≤◌, [], false};
     ghost use Rattle.std.specs.Prelude.{IfErr, IfOk, IfSome, MatchResult, None, OnErr, OnOk, Some};
     ghost use Rattle.command_text.specs.Putting.{PutsOut};
     ghost use Rattle.packet_source.specs.declared.limits.TheConstants.{STREAM_LIMIT};
+    ghost use Rattle.pcr_clock.specs.declared.arrival.TheConstants.{MOST_BETWEEN};
     ghost use Rattle.pcr_clock.specs.declared.sample.TheConstants.{CLOCK_LIMIT};
     ghost use Rattle.stream_syntax.specs.TransportPackets.{packet_fault};
     ghost use Rattle.sub_base.specs.Profile.{IsProfile};
-    ghost use Rattle.level_text.specs.Clocking.{FinishesClocked, HasClocked, TakesSampled};
+    ghost use Rattle.level_text.specs.Clocking.{FinishesClocked, HasClocked, Holds, TakesSampled};
 
     /// A receiver of a profile, with or without a step, for a PID and these pages, of a stream of
     /// which no packet came. Its lifted times begin when the first packet arrives. The memory for
@@ -75,6 +80,7 @@ impl ClockLevels {
             held: Vec::with_capacity(alloc, MOST_BETWEEN as usize)?,
             last: None,
             since: 0,
+            waiting: 0,
         })
     }
 
@@ -102,7 +108,7 @@ impl ClockLevels {
         sample: Option<u64>,
         packet: &[u8; 188],
     ) -> Result<(), PacketFault>
-        requires few { self.old.since + length self.old.held < STREAM_LIMIT }
+        requires few { self.old.since + self.old.waiting < STREAM_LIMIT }
         requires sample { IfSome sample (λ sample. sample < CLOCK_LIMIT) }
         ensures fault { MatchResult result
             (λ _. packet_fault self.old.meter.asked.pid packet.now ≡ None)
@@ -126,7 +132,7 @@ impl ClockLevels {
         Ok(())
     }
 
-    /// Takes a packet with a sample: with it the ticks of those that are held are known.
+    /// Takes a packet with a sample: with it the ticks of those that wait are known.
     fn take_sampled<K: Sink>(
         &mut self,
         out: &mut K,
@@ -134,7 +140,7 @@ impl ClockLevels {
         sample: u64,
         packet: &[u8; 188],
     )
-        requires few { self.old.since + length self.old.held < STREAM_LIMIT }
+        requires few { self.old.since + self.old.waiting < STREAM_LIMIT }
         requires sample { sample < CLOCK_LIMIT }
         requires right { packet_fault self.old.meter.asked.pid packet.now ≡ None }
         ensures asked { self.new.meter.asked ≡ self.old.meter.asked }
@@ -144,28 +150,27 @@ impl ClockLevels {
             self.old self.new buffer.old buffer.new (Some sample) packet.now }
     {
         let next = NextSample {
-            behind: self.since + self.held.len() as u64,
+            behind: self.since + self.waiting,
             time: time_behind(self.last, sample),
         };
-        take_held(
-            out,
-            buffer,
-            &mut self.meter,
-            &self.held,
-            self.last,
-            self.since,
-            Some(next),
-        );
+        let run = Run {
+            last: self.last,
+            since: self.since,
+            count: self.waiting,
+            next: Some(next),
+        };
+        self.meter.take_run(out, buffer, run, &self.held);
         self.meter
             .take(out, buffer, tick_of_time(next.time), packet);
         self.held.clear();
         self.last = Some(next.time);
         self.since = 1;
+        self.waiting = 0;
     }
 
-    /// Takes a packet without a sample: it is held, where the next sample may be near enough.
+    /// Takes a packet without a sample: it waits, where the next sample may be near enough.
     fn take_unsampled<K: Sink>(&mut self, out: &mut K, buffer: &mut TextBuffer, packet: &[u8; 188])
-        requires few { self.old.since + length self.old.held < STREAM_LIMIT }
+        requires few { self.old.since + self.old.waiting < STREAM_LIMIT }
         requires right { packet_fault self.old.meter.asked.pid packet.now ≡ None }
         ensures asked { self.new.meter.asked ≡ self.old.meter.asked }
         ensures told { TakesSampled
@@ -173,18 +178,35 @@ impl ClockLevels {
             (K.received out.new)
             self.old self.new buffer.old buffer.new None packet.now }
     {
-        if self.since + (self.held.len() as u64) < MOST_BETWEEN {
-            self.held.push_reserved(*packet);
+        if self.since + self.waiting < MOST_BETWEEN {
+            self.hold(packet);
         } else {
             self.take_far(out, buffer, packet);
         }
     }
 
+    /// A packet without a sample waits, and is held where it is of the PID.
+    fn hold(&mut self, packet: &[u8; 188])
+        requires room { self.old.since + self.old.waiting < MOST_BETWEEN }
+        requires right { packet_fault self.old.meter.asked.pid packet.now ≡ None }
+        ensures asked { self.new.meter.asked ≡ self.old.meter.asked }
+        ensures told { Holds self.old self.new packet.now }
+    {
+        let pid = self.meter.pid();
+        hold_own(
+            &mut self.held,
+            pid,
+            (self.since + self.waiting) as u32,
+            packet,
+        );
+        self.waiting += 1;
+    }
+
     /// Takes a packet without a sample behind which the next one is too far: it arrives with the
-    /// last sample, and so do those that are held.
+    /// last sample, and so do those that wait.
     fn take_far<K: Sink>(&mut self, out: &mut K, buffer: &mut TextBuffer, packet: &[u8; 188])
-        requires few { self.old.since + length self.old.held < STREAM_LIMIT }
-        requires far { MOST_BETWEEN ≤ self.old.since + length self.old.held }
+        requires few { self.old.since + self.old.waiting < STREAM_LIMIT }
+        requires far { MOST_BETWEEN ≤ self.old.since + self.old.waiting }
         requires right { packet_fault self.old.meter.asked.pid packet.now ≡ None }
         ensures asked { self.new.meter.asked ≡ self.old.meter.asked }
         ensures told { TakesSampled
@@ -192,24 +214,23 @@ impl ClockLevels {
             (K.received out.new)
             self.old self.new buffer.old buffer.new None packet.now }
     {
-        take_held(
-            out,
-            buffer,
-            &mut self.meter,
-            &self.held,
-            self.last,
-            self.since,
-            None,
-        );
+        let run = Run {
+            last: self.last,
+            since: self.since,
+            count: self.waiting,
+            next: None,
+        };
+        self.meter.take_run(out, buffer, run, &self.held);
         self.meter.take(out, buffer, last_tick(self.last), packet);
-        self.since += self.held.len() as u64 + 1;
         self.held.clear();
+        self.since += self.waiting + 1;
+        self.waiting = 0;
     }
 
-    /// No packet comes any more: those that are held arrive with the last sample. Puts out the
-    /// lines of the sets that come with them and, where the stream has ended, of the sets that are
-    /// left, of the greatest level and of the first breach. Answers whether no memory was found for
-    /// the receiver: nothing was put out then.
+    /// No packet comes any more: those that wait arrive with the last sample. Puts out the lines of
+    /// the sets that come with them and, where the stream has ended, of the sets that are left, of
+    /// the greatest level and of the first breach. Answers whether no memory was found for the
+    /// receiver: nothing was put out then.
     pub fn finish<K: Sink>(self, out: &mut K, buffer: &mut TextBuffer, ended: bool) -> bool
         ensures { FinishesClocked ended
             (K.received out.old)
@@ -221,8 +242,15 @@ impl ClockLevels {
             held,
             last,
             since,
+            waiting,
         } = self;
-        take_held(out, buffer, &mut meter, &held, last, since, None);
+        let run = Run {
+            last,
+            since,
+            count: waiting,
+            next: None,
+        };
+        meter.take_run(out, buffer, run, &held);
         meter.finish(out, buffer, ended);
         meter.is_wanting()
     }

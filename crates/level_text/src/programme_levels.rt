@@ -35,9 +35,12 @@ impl Model for ProgrammeLevels {
 }
 
 impl ProgrammeLevels {
-    ghost use Rattle.std.specs.Prelude.{◌≡◌, ◌<◌, [], false, IfOk, MatchResult, None, OnErr, OnOk, Some};
+    ghost use Rattle.std.specs.Prelude.{◌≡◌, ◌<◌, ℕ, List, [], false, IfOk, MatchResult, None, OnErr, OnOk, Some};
+    ghost use Rattle.std.specs.Option.{option_or};
     ghost use Rattle.packet_source.specs.declared.limits.TheConstants.{STREAM_LIMIT};
     ghost use Rattle.packet_walk.specs.Told.{HasTaken, StaysTold, TellsOne};
+    ghost use Rattle.service_tables.specs.Clock.{clock_pid};
+    ghost use Rattle.service_tables.specs.Reading.{HasRead};
     ghost use Rattle.stream_syntax.specs.TransportPackets.{packet_fault};
     ghost use Rattle.sub_base.specs.Profile.{IsProfile};
     ghost use Rattle.level_text.specs.Following.{FinishesFollowing, HasFollowed, is_wanting as is_wanting_of};
@@ -103,11 +106,25 @@ impl ProgrammeLevels {
         }
         let sample = sample_by(self.clock, packet);
         self.levels.take(out, buffer, sample, packet)?;
-        self.programmes.feed(packet);
+        if self.programmes.feed(packet) {
+            self.look_for_clock();
+        }
+        Ok(())
+    }
+
+    /// Asks for the clock of the PID, where none is known: a walk over the PMTs, so that it is done
+    /// only where another table has come.
+    fn look_for_clock(&mut self)
+        ensures levels { self.new.levels ≡ self.old.levels }
+        ensures programmes { self.new.programmes ≡ self.old.programmes }
+        ensures clock { (packets : List (List ℕ)) → self.old.programmes.is_wanting ≡ false
+            → HasRead self.old.programmes packets
+            → self.new.clock
+            ≡ option_or self.old.clock (clock_pid packets self.old.levels.meter.asked.pid) }
+    {
         if self.clock.is_none() {
             self.clock = self.programmes.clock_pid_of(self.levels.pid());
         }
-        Ok(())
     }
 
     /// No packet comes any more: those that are held arrive with the last sample. Puts out the

@@ -1,5 +1,5 @@
 -- A list of programmes, each of which looks for its PMT.
-use Rattle.std.proofs.Common.{◌≡◌, ◌≢◌, ◌∙◌, ℕ, zero, suc, ◌+◌, ◌<◌, ◌≤◌, ◌⊎◌, List, [], ◌∷◌, ◌++◌, length, length-append, length-set, map, get_or, set, Option, inl, inr, refl, sym, ap, subst, arith}
+use Rattle.std.proofs.Common.{◌≡◌, ◌≢◌, ◌∙◌, Bool, true, false, ◌||◌, ℕ, zero, suc, ◌+◌, ◌<◌, ◌≤◌, ◌⊎◌, List, [], ◌∷◌, ◌++◌, length, length-append, length-set, map, get_or, set, Option, inl, inr, refl, sym, ap, subst, arith}
 use Rattle.std.proofs.lemmas.List.{get_or-set_other, get_or-set_same, get_or_append_left}
 use Rattle.std.proofs.Math.Seq.{get_or-append_seam, map-set_same}
 use Rattle.sub_base.specs.Lists.{first_given}
@@ -90,6 +90,28 @@ pub all_fed : (old new : List ProgrammeReading) (count : ℕ) (packet : List ℕ
     → HaveReadMaps new (packets ++ packet ∷ [])
 all_fed old new count packet are all packets have = λ k below.
     (are.fed k (omega (arith, all, below))).read packets (have k (omega (arith, below, are.same)))
+
+-- where no PMT came, the programmes are as before
+abbrev pub AreSame : Bool → List ProgrammeReading → List ProgrammeReading → Type 0
+AreSame came old new = came ≡ false → (packets : List (List ℕ)) → HaveReadMaps old packets
+    → map map_of new ≡ map map_of old
+
+pub one_more_same : (old new : List ProgrammeReading) (count : ℕ) (packet : List ℕ) (fed : ProgrammeReading)
+    (came one : Bool) → AreFed old new count packet → AreSame came old new → count < length new
+    → (one ≡ false → (packets : List (List ℕ)) → HasReadMap (get_or new count no_programme) packets
+    → map_of fed ≡ map_of (get_or new count no_programme))
+    → AreSame (came || one) old (set new count fed)
+one_more_same old new count packet fed came one are same below is none packets have =
+    let apart = neither came one none in
+    let here : HasReadMap (get_or new count no_programme) packets =
+    subst (λ (p : ProgrammeReading). HasReadMap p packets) (sym (are.left count (omega arith)))
+    (have count (omega (arith, below, are.same))) in
+    map-set_same map_of new count fed no_programme (is apart.1 packets here) ∙ same apart.0 packets have
+  where
+    neither : (a b : Bool) → (a || b) ≡ false → (a ≡ false) × (b ≡ false)
+    neither false false none = (refl, refl)
+    neither false true none = absurd cc
+    neither true b none = absurd cc
 
 -- ---- what they stand for
 

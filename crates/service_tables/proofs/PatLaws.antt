@@ -162,3 +162,35 @@ maps_by (Some pat) read packets none is =
 pub maps_are : (read : ProgrammesRead) (packets : List (List ℕ)) → read.is_wanting ≡ false
     → HasRead read packets → programme_maps packets ≡ map map_of read.programmes
 maps_are read packets none is = maps_by read.pat.section read packets none is
+
+-- ---- where no table came
+
+none_by : (section : Option (List ℕ)) (read : ProgrammesRead) (packets : List (List ℕ)) → section ≡ None
+    → ReadBy section read packets → programme_maps packets ≡ []
+unfolding programme_maps
+none_by None read packets none is = ap maps_behind is.none
+none_by (Some pat) read packets none is = absurd cc
+
+-- before the PAT there is no programme
+pub none_listed : (read : ProgrammesRead) (packets : List (List ℕ)) → read.pat.section ≡ None → HasRead read packets
+    → programme_maps packets ≡ []
+none_listed read packets none is = none_by read.pat.section read packets none is
+
+-- behind it the programmes are as before
+pub maps_stay : (old new : ProgrammesRead) (packet : List ℕ) → is_some old.pat.section ≡ true
+    → new.is_wanting ≡ old.is_wanting
+    → ((packets : List (List ℕ)) → HasRead old packets → HasRead new (packets ++ packet ∷ []))
+    → ((packets : List (List ℕ)) → HaveReadMaps old.programmes packets
+    → map map_of new.programmes ≡ map map_of old.programmes)
+    → new.is_wanting ≡ false → (packets : List (List ℕ)) → HasRead old packets
+    → programme_maps (packets ++ packet ∷ []) ≡ programme_maps packets
+maps_stay old new packet some wanting reads same found packets is =
+    let old_found : old.is_wanting ≡ false = sym wanting ∙ found in
+    maps_are new (packets ++ packet ∷ []) found (reads packets is)
+    ∙ by old.pat.section some old_found is
+    ∙ sym (maps_are old packets old_found is)
+  where
+    by : (section : Option (List ℕ)) → is_some section ≡ true → old.is_wanting ≡ false → ReadBy section old packets
+        → map map_of new.programmes ≡ map map_of old.programmes
+    by None some none is = absurd cc
+    by (Some section) some none is = same is.behind (is.listed none).read

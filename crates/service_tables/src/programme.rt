@@ -1,4 +1,4 @@
-ghost use Rattle.std.specs.Prelude.{◌≡◌, ◌==◌};
+ghost use Rattle.std.specs.Prelude.{◌≡◌, ◌==◌, ◌&&◌, not};
 ghost use Rattle.std.specs.List.{list_any};
 ghost use Rattle.psi_tables.specs.Loops.{streams_of};
 ghost use Rattle.service_tables.specs.Tables.{streams_in};
@@ -28,7 +28,7 @@ impl Model for Programme {
 }
 
 impl Programme {
-    ghost use Rattle.std.specs.Prelude.{◌≡◌, ◌++◌, ◌∷◌, [], ℕ, IfOk, List};
+    ghost use Rattle.std.specs.Prelude.{◌≡◌, ◌++◌, ◌∷◌, [], ℕ, IfOk, List, false};
     ghost use Rattle.psi_tables.specs.Loops.{streams_of};
     ghost use Rattle.psi_tables.specs.Walking.{entry_value};
     ghost use Rattle.service_tables.specs.Clock.{clock_at, lists};
@@ -55,13 +55,17 @@ impl Programme {
         self.number
     }
 
-    /// Takes the next packet.
-    pub(crate) fn feed(&mut self, packet: &[u8; 188])
+    /// Takes the next packet: whether its PMT came with it.
+    pub(crate) fn feed(&mut self, packet: &[u8; 188]) -> bool
         ensures entry { entry_of self.new ≡ entry_of self.old }
         ensures read { (packets : List (List ℕ)) → HasReadMap self.old packets
             → HasReadMap self.new (packets ++ packet.now ∷ []) }
+        ensures same { result ≡ false → (packets : List (List ℕ)) → HasReadMap self.old packets
+            → map_of self.new ≡ map_of self.old }
     {
+        let was_found = self.map.is_found();
         self.sections.feed(packet, &mut self.map);
+        has_come(was_found, self.map.is_found())
     }
 
     /// The bytes of the streams that its PMT lists, none where none has come.
@@ -90,6 +94,13 @@ impl Programme {
             None => None,
         }
     }
+}
+
+/// Whether a table is found now that was not before.
+fn has_come(was_found: bool, is_found: bool) -> bool
+    ensures { result ≡ (not was_found && is_found) }
+{
+    !was_found && is_found
 }
 
 /// The bytes of the streams of a PMT's section.

@@ -1,4 +1,4 @@
-ghost use Rattle.std.specs.Prelude.{◌≡◌, ◌==◌, ◌&&◌, not, ◌++◌, ◌∷◌, [], ℕ, IfOk, List, map};
+ghost use Rattle.std.specs.Prelude.{◌≡◌, ◌==◌, ◌&&◌, not, ◌++◌, ◌∷◌, [], ℕ, IfOk, List, false, map};
 ghost use Rattle.std.specs.List.{list_any};
 ghost use Rattle.psi_tables.specs.Loops.{entries_of};
 ghost use Rattle.service_tables.specs.Clock.{clock_among};
@@ -72,15 +72,20 @@ impl Programmes {
         self.is_wanting
     }
 
-    /// Takes the next packet of the stream.
-    pub fn feed(&mut self, packet: &[u8; 188])
-        ensures { (packets : List (List ℕ)) → HasRead self.old packets
+    /// Takes the next packet of the stream: whether the PAT or a PMT that is looked for came with
+    /// it. Where none did, the programmes are as before.
+    pub fn feed(&mut self, packet: &[u8; 188]) -> bool
+        ensures read { (packets : List (List ℕ)) → HasRead self.old packets
             → HasRead self.new (packets ++ packet.now ∷ []) }
+        ensures same { result ≡ false → self.new.is_wanting ≡ false
+            → (packets : List (List ℕ)) → HasRead self.old packets
+            → programme_maps (packets ++ packet.now ∷ []) ≡ programme_maps packets }
     {
         if self.pat.is_found() {
-            feed_each(&mut self.programmes, packet);
+            feed_each(&mut self.programmes, packet)
         } else {
             self.look_for_pat(packet);
+            self.pat.is_found()
         }
     }
 
@@ -119,23 +124,31 @@ impl Programmes {
     }
 }
 
-/// Feeds a packet to each programme.
-fn feed_each(programmes: &mut Vec<Programme>, packet: &[u8; 188])
+/// Feeds a packet to each programme: whether the PMT of any came with it.
+fn feed_each(programmes: &mut Vec<Programme>, packet: &[u8; 188]) -> bool
     ensures entries { map entry_of programmes.new.items ≡ map entry_of programmes.old.items }
     ensures read { (packets : List (List ℕ)) → HaveReadMaps programmes.old.items packets
         → HaveReadMaps programmes.new.items (packets ++ packet.now ∷ []) }
+    ensures same { result ≡ false
+        → (packets : List (List ℕ)) → HaveReadMaps programmes.old.items packets
+        → map map_of programmes.new.items ≡ map map_of programmes.old.items }
 {
-    feed_all(programmes.as_mut_slice(), packet);
+    feed_all(programmes.as_mut_slice(), packet)
 }
 
-fn feed_all(programmes: &mut [Programme], packet: &[u8; 188])
+fn feed_all(programmes: &mut [Programme], packet: &[u8; 188]) -> bool
     ensures entries { map entry_of programmes.new ≡ map entry_of programmes.old }
     ensures read { (packets : List (List ℕ)) → HaveReadMaps programmes.old packets
         → HaveReadMaps programmes.new (packets ++ packet.now ∷ []) }
+    ensures same { result ≡ false
+        → (packets : List (List ℕ)) → HaveReadMaps programmes.old packets
+        → map map_of programmes.new ≡ map map_of programmes.old }
 {
+    let mut came = false;
     for programme in programmes.iter_mut() {
-        programme.feed(packet);
+        came |= programme.feed(packet);
     }
+    came
 }
 
 /// The programmes that the section of a PAT lists.

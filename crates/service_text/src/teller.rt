@@ -80,7 +80,7 @@ impl PacketTeller for PidTeller {
         packet: &[u8; 188],
     ) -> Result<(), PacketFault> {
         self.pids.take_packet(out, buffer, place, packet)?;
-        self.programmes.feed(packet);
+        let _came = self.programmes.feed(packet);
         Ok(())
     }
 }

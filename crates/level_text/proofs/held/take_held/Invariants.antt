@@ -1,17 +1,18 @@
-use Rattle.std.proofs.Common.{◌≡◌, ◌+◌, ◌≤◌, take}
-use Rattle.pcr_clock.specs.Arrivals.{tick_between, ticks_of_run}
-use Rattle.level_text.specs.Anchoring.{TakesTimed, last_told}
+use Rattle.std.proofs.Common.{◌≡◌, ◌+◌, ◌≤◌, ℕ, drop, take}
+use Rattle.level_text.specs.Held.{AreHeld, TakesHeld, end_tick, tick_in}
+use Rattle.set_receiver.specs.Receiving.{reception}
 use Rattle.level_text.proofs.held.take_held.Given as goal
 
-abbrev pub invariant-loop-packet : goal.invariant-loop-packet
-invariant-loop-packet g l =
+abbrev pub invariant-loop-one : goal.invariant-loop-one
+invariant-loop-one g l =
     record {
-      behind : l.behind ≡ l.fn.since + l.packet-index;
-      asked : l.meter.asked ≡ l.fn.meter.asked;
-      later : last_told l.meter.sets ≤ tick_between l.last l.behind l.next;
-      told : TakesTimed
+      same : reception l.sets.receiving ≡ reception l.fn.sets.receiving;
+      pace : l.sets.meter.pace ≡ l.fn.sets.meter.pace;
+      until : l.sets.meter.last ≤ end_tick l.run.last l.run.next;
+      left : (from : ℕ) × (l.sets.meter.last ≤ tick_in l.run from)
+          × AreHeld (reception l.fn.sets.receiving).pid from (l.run.since + l.run.count) (drop l.one-index l.held);
+      told : TakesHeld
           (g.K.Sink.received l.fn.out)
           (g.K.Sink.received l.out)
-          l.fn.meter l.meter l.fn.buffer l.buffer (ticks_of_run l.last l.fn.since l.packet-index l.next)
-          (take l.packet-index l.held);
+          l.fn.sets l.sets l.fn.buffer l.buffer l.run (take l.one-index l.held);
     }

@@ -5,4 +5,4 @@ use Rattle.level_text.proofs.clock_levels.ClockLevels.make.Goals as goal
 
 pub returns-clause-nothing : goal.returns-clause-nothing
 returns-clause-nothing c =
-    nothing_clocked _ c.in_ok-with_capacity.ensures.items refl refl c.new.ensures.sets c.new.ensures.found
+    nothing_clocked _ c.in_ok-with_capacity.ensures.items refl refl refl c.new.ensures.sets c.new.ensures.found

@@ -20,4 +20,4 @@ returns-clause-told g c =
       services = c.args.self.now.services;
     })
     c.args.buffer.now c.take_packet.new._buffer c.args.place c.args.packet.now c.in_ok-take_packet.ensures.told
-    c.feed.ensures refl
+    c.feed.ensures.read refl
