@@ -240,7 +240,8 @@ module _ (before mid now : Received) (old : Clocking) (start end : Anchoring) (w
         let goes =
         (taken_behind has.behind _ (last_tick old.last) (waited has.behind has.run) one).goes has.ticks has.taken text
         has.timed in
-        let clock = clock_where_far has.known has.ticks old.last old.since (suc count) (omega (arith, far)) has.clock in (
+        let clock =
+        clock_where_far has.known has.ticks old.last old.since (suc count) (omega (arith, far)) has.clock in (
           goes.0,
           record {
             taken = has.taken ++ (has.behind ++ packet ∷ []);
@@ -277,7 +278,8 @@ sampled_as before mid now old start end was between is packet sample left time t
     (record { meter = end; held = none; last = Some time; since = 1; waiting = 0 }) was is (Some sample) packet)
     (sym left_is)
     (subst (λ (t : ℕ). TakesSampled before now old
-    (record { meter = end; held = []; last = Some t; since = 1; waiting = 0 }) was is (Some sample) packet) (sym time_is)
+    (record { meter = end; held = []; last = Some t; since = 1; waiting = 0 }) was is (Some sample) packet)
+    (sym time_is)
     (one_sampled before mid now old start end was between is packet sample
     (subst (λ (t : ℕ). TakesWaiting old (sample_behind old t) before mid start was between) time_is waited)
     (subst (λ (t : ℕ). TakesTimed mid now start end between is (t ∷ []) (packet ∷ []))
@@ -340,7 +342,8 @@ more_waits clocking held packet is right held_is near = record {
           arith,
           is.fewer,
           length-append clocking.held
-              (let one : HeldPacket = record { behind = clocking.since + clocking.waiting; packet = packet } in one ∷ []),
+              (let one : HeldPacket = record { behind = clocking.since + clocking.waiting; packet = packet } in
+              one ∷ []),
         )
     longer false = omega (arith, is.fewer)
 
@@ -372,7 +375,8 @@ all_finished ended before mid now old start end was between is asked_is waited f
         taken.0 ++ last.0,
         (λ wanting. sym joined ∙ last.1.nothing wanting),
         (λ found.
-            subst (λ (asked : Reception). IsClockText samples asked ended packets (text ++ (taken.0 ++ last.0))) asked_is
+            subst (λ (asked : Reception). IsClockText samples asked ended packets (text ++ (taken.0 ++ last.0)))
+            asked_is
             (subst (λ (ticks : List ℕ). IsTextBy (at_ticks ticks end.asked.profile) (from_first ticks end.asked)
             ended packets (text ++ (taken.0 ++ last.0))) (sym ticks_are)
             (subst (λ (all : List (List ℕ)). IsTextBy (at_ticks (has.ticks ++ run) end.asked.profile)

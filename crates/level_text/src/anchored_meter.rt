@@ -146,8 +146,8 @@ impl AnchoredMeter {
         }
     }
 
-    /// Takes the packets of a run, of which those of the PID are held, and puts out the lines of the
-    /// sets that come with them.
+    /// Takes the packets of a run, of which those of the PID are held, and puts out the lines of
+    /// the sets that come with them.
     pub(crate) fn take_run<K: Sink>(
         &mut self,
         out: &mut K,

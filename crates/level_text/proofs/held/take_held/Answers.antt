@@ -92,7 +92,8 @@ loop-one-preserved g c =
       told =
           subst (λ (held : List HeldPacket). TakesHeld (g.K.Sink.received c.args.out.now)
           (g.K.Sink.received c.take-taken.new.out) c.args.sets.now c.take-taken.new.self c.args.buffer.now
-          c.take-taken.new.buffer run held) (sym (take_more c.args.held.now c.loop-one.one-index d c.loop-one-test.true))
+          c.take-taken.new.buffer run held)
+          (sym (take_more c.args.held.now c.loop-one.one-index d c.loop-one-test.true))
           (one_more_taken (g.K.Sink.received c.args.out.now) (g.K.Sink.received c.loop-one.out)
           (g.K.Sink.received c.take-taken.new.out) c.args.sets.now c.loop-one.sets c.take-taken.new.self
           c.args.buffer.now c.loop-one.buffer c.take-taken.new.buffer run (take c.loop-one.one-index c.args.held.now)

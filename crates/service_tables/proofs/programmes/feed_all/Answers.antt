@@ -8,7 +8,8 @@ pub loop-programme-preserved : goal.loop-programme-preserved
 loop-programme-preserved c =
     let below : c.loop-programme.programme-index < length c.loop-programme.programmes =
     omega (arith, c.loop-programme-test.true, c.loop-programme.auto.programmes) in
-    let at = get_or_default c.loop-programme.programmes c.loop-programme.programme-index c.programme-item.result no_programme
+    let at =
+    get_or_default c.loop-programme.programmes c.loop-programme.programme-index c.programme-item.result no_programme
     below in
     record {
       fed =
@@ -17,6 +18,7 @@ loop-programme-preserved c =
           (record { entry = c.feed-came.ensures.entry; read = c.feed-came.ensures.read }));
       same = one_more_same _ _ _ c.args.packet.now c.feed-came.new.self c.loop-programme.came c.feed-came.result
           c.loop-programme.invariant.fed c.loop-programme.invariant.same below
-          (subst (λ (p : ProgrammeReading). c.feed-came.result ≡ false → (packets : List (List ℕ)) → HasReadMap p packets
+          (subst (λ (p : ProgrammeReading). c.feed-came.result ≡ false → (packets : List (List ℕ))
+          → HasReadMap p packets
           → map_of c.feed-came.new.self ≡ map_of p) at c.feed-came.ensures.same);
     }
