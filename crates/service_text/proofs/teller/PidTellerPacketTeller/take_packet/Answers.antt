@@ -16,8 +16,8 @@ pub returns-clause-told : goal.returns-clause-told
 returns-clause-told g c =
     one_more_told _ _ c.args.self.now (record {
       pids = c.take_packet.new.self;
-      programmes = c.feed.new.self;
+      programmes = c.feed-came.new.self;
       services = c.args.self.now.services;
     })
     c.args.buffer.now c.take_packet.new._buffer c.args.place c.args.packet.now c.in_ok-take_packet.ensures.told
-    c.feed.ensures.read refl
+    c.feed-came.ensures.read refl
