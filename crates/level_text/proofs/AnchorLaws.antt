@@ -1,5 +1,5 @@
 -- A receiver whose lifted times begin when its first packet arrives: packets that it takes, and the end.
-use Rattle.std.proofs.Common.{◌≡◌, ◌∙◌, ℕ, zero, suc, ◌+◌, ◌-◌, ◌<◌, ◌≤◌, min, Bool, true, false, List, [], ◌∷◌, ◌++◌, length, get_or, Option, Some, None, Result, Ok, Err, MatchResult, OnOk, is_some, append-nil, append_assoc, refl, sym, ap, subst, arith}
+use Rattle.std.proofs.Common.{◌≡◌, ◌∙◌, ℕ, zero, suc, ◌+◌, ◌-◌, ◌<◌, min, Bool, true, false, List, [], ◌∷◌, ◌++◌, length, get_or, Option, Some, None, Result, Ok, Err, MatchResult, OnOk, is_some, append-nil, append_assoc, refl, sym, ap, subst, arith}
 use Rattle.std.proofs.Math.Seq.{get_or-append_right, get_or-append_seam}
 use Rattle.std.proofs.lemmas.List.{get_or_append_left, length-append}
 use Rattle.buffer_model.specs.Ticks.{by_ticks}
@@ -19,7 +19,6 @@ use Rattle.set_receiver.specs.Receiving.{reception}
 use Rattle.stream_syntax.specs.declared.transport.PacketFault.{PacketFault}
 use Rattle.sub_base.specs.Endpoints.{Received}
 use Rattle.sub_base.specs.declared.pace.Pace.{Pace}
-use Rattle.sub_base.specs.declared.profile.Profile.{Profile}
 use Rattle.level_text.specs.Anchoring.{Anchoring, EndsTimed, FinishesTimed, HasBegun, HasTimed, IsAskedFor, IsMeterFor, IsBegunIn, IsTimed, IsTimedIn, TakesTimed}
 use Rattle.level_text.specs.ClockText.{at_ticks, from_first}
 use Rattle.level_text.specs.Held.{AreSound, IsRun, TakesHeld, held_of, tick_in}

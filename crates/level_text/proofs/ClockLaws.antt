@@ -1,13 +1,11 @@
 -- Packets that arrive by the samples of a clock: one more, and the end.
-use Rattle.std.proofs.Common.{◌≡◌, ◌∙◌, ℕ, zero, suc, ◌+◌, ◌<◌, ◌≤◌, ◌==◌, Bool, true, false, if◌then◌else◌, List, [], ◌∷◌, ◌++◌, length, replicate, Option, Some, None, append-nil, append_assoc, refl, sym, ap, subst, arith}
-use Rattle.std.specs.List.{AllByRecursion}
+use Rattle.std.proofs.Common.{◌≡◌, ◌∙◌, ℕ, zero, suc, ◌+◌, ◌<◌, ◌≤◌, ◌==◌, Bool, true, false, if◌then◌else◌, List, [], ◌∷◌, ◌++◌, length, Option, Some, None, append-nil, append_assoc, refl, sym, ap, subst, arith}
 use Rattle.std.proofs.lemmas.List.{length-append, length-replicate}
 use Rattle.check_text.specs.Checking.{Checking}
 use Rattle.check_text.specs.Courses.{IsTextBy}
-use Rattle.command_text.specs.Putting.{Buffered, PutsOut}
+use Rattle.command_text.specs.Putting.{Buffered}
 use Rattle.command_text.proofs.PutLaws.{PutsOut-both, PutsOut-nothing}
 use Rattle.decoder_model.specs.Received.{Reception}
-use Rattle.packet_source.specs.declared.limits.TheConstants.{STREAM_LIMIT}
 use Rattle.pcr_clock.specs.Arrivals.{IsClockAt, last_tick, tick_of_time, ticks_of, ticks_of_run}
 use Rattle.pcr_clock.specs.Samples.{time_behind}
 use Rattle.pcr_clock.specs.declared.arrival.NextSample.{NextSample}

@@ -1,11 +1,10 @@
 -- Packets that are held are taken one after the other, and those between them bring nothing.
-use Rattle.std.proofs.Common.{◌≡◌, ◌∙◌, ℕ, zero, suc, ◌+◌, ◌<◌, ◌≤◌, ◌==◌, ◌⊎◌, inl, inr, Bool, true, false, if◌then◌else◌, IfSome, List, [], ◌∷◌, ◌++◌, length, take, drop, get_or, Option, Some, None, append-nil, append_assoc, length-append, refl, sym, ap, subst, arith}
+use Rattle.std.proofs.Common.{◌≡◌, ◌∙◌, ℕ, zero, suc, ◌+◌, ◌<◌, ◌≤◌, ◌==◌, ◌⊎◌, inl, inr, Bool, true, false, if◌then◌else◌, IfSome, List, [], ◌∷◌, ◌++◌, length, drop, get_or, Option, Some, None, append-nil, append_assoc, length-append, refl, sym, ap, subst, arith}
 use Rattle.std.specs.List.{AllByRecursion}
-use Rattle.std.proofs.lemmas.List.{take_more}
 use Rattle.check_text.specs.Checking.{Checking, HasMetered}
 use Rattle.check_text.specs.Others.{IsOther}
 use Rattle.check_text.proofs.OtherLaws.{other_metered}
-use Rattle.command_text.specs.Putting.{Buffered, PutsOut}
+use Rattle.command_text.specs.Putting.{Buffered}
 use Rattle.command_text.proofs.PutLaws.{PutsOut-both, PutsOut-nothing}
 use Rattle.decoder_model.specs.Received.{Reception}
 use Rattle.packet_walk.specs.Told.{TellsOne}
@@ -15,7 +14,7 @@ use Rattle.pcr_clock.proofs.RunLaws.{between_first, between_last, between_rises}
 use Rattle.set_receiver.specs.Receiving.{reception}
 use Rattle.stream_syntax.specs.TransportPackets.{packet_fault, pid_of}
 use Rattle.sub_base.specs.Endpoints.{Received}
-use Rattle.level_text.specs.Held.{AreHeld, AreSound, IsSound, TakesHeld, end_tick, held_of, tick_in}
+use Rattle.level_text.specs.Held.{AreHeld, AreSound, TakesHeld, end_tick, held_of, tick_in}
 use Rattle.level_text.specs.declared.held.HeldPacket.{HeldPacket}
 use Rattle.level_text.specs.declared.held.Run.{Run}
 

@@ -1,16 +1,14 @@
 -- One packet that was held after the other.
-use Rattle.std.proofs.Common.{◌≡◌, ◌∙◌, ◌+◌, ◌*◌, ◌<◌, ◌≤◌, ℕ, List, [], ◌∷◌, ◌++◌, None, ap, get_or, refl, sym, subst, take, drop, arith}
+use Rattle.std.proofs.Common.{◌≡◌, ◌∙◌, ◌+◌, ◌*◌, ℕ, List, [], None, ap, get_or, refl, sym, subst, take, arith}
 use Rattle.std.proofs.lemmas.List.{take_more}
-use Rattle.check_text.specs.Checking.{HasMetered}
 use Rattle.decoder_model.specs.Received.{Reception}
-use Rattle.packet_walk.specs.Told.{TellsOne}
 use Rattle.pcr_clock.specs.Arrivals.{tick_between}
 use Rattle.pcr_clock.proofs.RunLaws.{between_first, between_rises}
 use Rattle.set_receiver.specs.Receiving.{reception}
 use Rattle.stream_syntax.specs.TransportPackets.{packet_fault}
 use Rattle.sub_base.specs.Pace.{tick_of}
 use Rattle.sub_base.specs.declared.pace.Pace.{Pace}
-use Rattle.level_text.specs.Held.{AreHeld, TakesHeld, tick_in}
+use Rattle.level_text.specs.Held.{TakesHeld, tick_in}
 use Rattle.level_text.specs.declared.held.HeldPacket.{HeldPacket}
 use Rattle.level_text.proofs.AnchorLaws.{taken_right}
 use Rattle.level_text.proofs.HeldLaws.{between_up_to, first_held, last_until_end, none_taken, one_more_taken, until_end}

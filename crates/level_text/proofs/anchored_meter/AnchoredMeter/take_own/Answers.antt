@@ -2,7 +2,7 @@
 use Rattle.std.proofs.Common.{◌≡◌, ◌∙◌, ℕ, [], ◌∷◌, false, None, Some, Option, ap, refl, sym, subst}
 use Rattle.check_text.specs.Checking.{Checking}
 use Rattle.decoder_model.specs.Received.{Reception}
-use Rattle.level_text.specs.Anchoring.{Anchoring, HasBegun, HasTimed, TakesTimed}
+use Rattle.level_text.specs.Anchoring.{Anchoring, TakesTimed}
 use Rattle.level_text.proofs.AnchorLaws.{asked_where, found_where, one_timed, one_untold, taken_right}
 use Rattle.set_receiver.specs.Receiving.{reception}
 use Rattle.stream_syntax.specs.TransportPackets.{packet_fault}

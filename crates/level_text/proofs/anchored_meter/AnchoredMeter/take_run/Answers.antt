@@ -1,9 +1,9 @@
 -- Packets without a sample, one behind the other.
-use Rattle.std.proofs.Common.{◌≡◌, ◌∙◌, ℕ, ◌<◌, [], ◌∷◌, ◌++◌, List, false, None, Some, Option, ap, refl, sym, subst, arith}
+use Rattle.std.proofs.Common.{◌≡◌, ◌∙◌, ℕ, [], ◌∷◌, ◌++◌, false, None, Some, Option, ap, refl, sym, subst, arith}
 use Rattle.check_text.specs.Checking.{Checking}
 use Rattle.decoder_model.specs.Received.{Reception}
-use Rattle.level_text.specs.Anchoring.{Anchoring, HasBegun, HasTimed, TakesTimed}
-use Rattle.level_text.specs.Held.{IsRun, tick_in}
+use Rattle.level_text.specs.Anchoring.{Anchoring, HasBegun, TakesTimed}
+use Rattle.level_text.specs.Held.{IsRun}
 use Rattle.level_text.proofs.AnchorLaws.{found_where, run_timed, run_untold, ticks_in}
 use Rattle.level_text.proofs.anchored_meter.AnchoredMeter.take_run.Goals as goal
 use Rattle.level_text.proofs.anchored_meter.AnchoredMeter.take_run.Goals.{in-Some-1, in-None-1}

@@ -1,5 +1,5 @@
 -- A packet waits.
-use Rattle.std.proofs.Common.{◌≡◌, ◌∙◌, ◌+◌, ◌<◌, ◌==◌, ℕ, List, None, ap, sym, subst, arith}
+use Rattle.std.proofs.Common.{◌≡◌, ◌∙◌, ◌+◌, ◌<◌, ◌==◌, ℕ, None, ap, sym, subst, arith}
 use Rattle.check_text.proofs.MeteredLaws.{bytes_of}
 use Rattle.pcr_clock.specs.declared.arrival.TheConstants.{MOST_BETWEEN}
 use Rattle.stream_syntax.specs.TransportPackets.{packet_fault, pid_of}

@@ -1,5 +1,5 @@
 -- A packet with a sample.
-use Rattle.std.proofs.Common.{◌+◌, List, Some, sym, subst}
+use Rattle.std.proofs.Common.{List, Some, sym, subst}
 use Rattle.level_text.specs.Clocking.{Clocking, TakesSampled}
 use Rattle.level_text.specs.Held.{IsRun}
 use Rattle.level_text.specs.declared.held.HeldPacket.{HeldPacket}

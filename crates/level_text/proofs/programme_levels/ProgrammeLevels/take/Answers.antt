@@ -1,5 +1,5 @@
 -- One packet more.
-use Rattle.std.proofs.Common.{◌≡◌, ◌∙◌, ◌++◌, ◌∷◌, [], ℕ, List, Option, ap, sym, subst}
+use Rattle.std.proofs.Common.{◌∙◌, ◌++◌, ◌∷◌, [], ℕ, Option, ap, sym, subst}
 use Rattle.std.specs.Option.{option_or}
 use Rattle.decoder_model.specs.Received.{Reception}
 use Rattle.packet_walk.specs.Told.{TellsOne}
