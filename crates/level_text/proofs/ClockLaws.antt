@@ -78,8 +78,8 @@ held_both pid since (packet ∷ packets) more =
     by true rest = ap (λ (held : List HeldPacket). record { behind = since; packet = packet } ∷ held) rest
     by false rest = rest
 
-sound_both : (pid : ℕ) (packets : List (List ℕ)) (packet : List ℕ) → AreRightPackets pid packets → IsRightPacket pid packet
-    → AreRightPackets pid (packets ++ packet ∷ [])
+sound_both : (pid : ℕ) (packets : List (List ℕ)) (packet : List ℕ) → AreRightPackets pid packets
+    → IsRightPacket pid packet → AreRightPackets pid (packets ++ packet ∷ [])
 sound_both pid [] packet are is = (is, tt)
 sound_both pid (first ∷ packets) packet are is = (are.0, sound_both pid packets packet are.1 is)
 
