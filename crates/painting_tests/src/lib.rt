@@ -1,5 +1,5 @@
-//! Tests of strings that are painted into packed rows and into regions of a store, and of blocks that
-//! are painted into regions, with bytes that were worked out by hand.
+//! Tests of strings that are painted into packed rows and into regions of a store, and of blocks
+//! that are painted into regions, with bytes that were worked out by hand.
 //! There is no code here but tests, so that no crate is proved again for them.
 #![tactic(auto)]
 

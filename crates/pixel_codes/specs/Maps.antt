@@ -1,4 +1,4 @@
--- The map tables that hold at a place of a pixel data block (EN 300 743, map table data), as the bytes that they are sent in.
+-- The map tables that hold at a place of a pixel data block (EN 300 743, map table data), as the bytes that are sent.
 use Rattle.std.specs.Prelude.{ℕ, List, [], ◌∷◌, take, Option, Some, None}
 use Rattle.sub_base.specs.declared.depth.Depth.{Depth}
 use Rattle.sub_base.specs.declared.depth.Depth.TheVariants.{Two, Four, Eight}

@@ -17,8 +17,8 @@ static FOUR_TO_EIGHT: [u8; 16] = [
     0x00, 0x11, 0x22, 0x33, 0x44, 0x55, 0x66, 0x77, 0x88, 0x99, 0xAA, 0xBB, 0xCC, 0xDD, 0xEE, 0xFF,
 ];
 
-/// The map tables that hold at a place of a block (EN 300 743, map table data): the default ones, or
-/// bytes of the block. They are seen as their bytes.
+/// The map tables that hold at a place of a block (EN 300 743, map table data): the default ones,
+/// or bytes of the block. They are seen as their bytes.
 #[derive(Drop)]
 pub struct Tables<'a> {
     two_to_four: &'a [u8],
