@@ -213,7 +213,7 @@ field_reads xs place width v h e = by_test (ltb (length xs) (place + width)) ref
         }
 
 -- the bits from a byte on
-bits_of-drop : (bytes : List ℕ) (i : ℕ) → i < length bytes
+pub bits_of-drop : (bytes : List ℕ) (i : ℕ) → i < length bytes
     → drop (8 * i) (bits_of bytes) ≡ bits 8 (get_or bytes i 0) ++ bits_of (drop (suc i) bytes)
 unfolding bits_of
 bits_of-drop [] i h = absurd (omega arith)

@@ -4,3 +4,4 @@ pub mod NarrowTokens
 pub mod Strings
 pub mod Told
 pub mod Bytewise
+pub mod Shown

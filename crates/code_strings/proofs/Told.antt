@@ -244,6 +244,10 @@ four_few byte = small_at FOUR_BIT_STEPS byte refl
 at_start : (depth : Depth) (xs : List ℕ) (place : ℕ) → Reached depth xs place → Reached depth xs (place + 0)
 at_start depth xs place r = let e : place ≡ place + 0 = omega arith in subst (λ (i : ℕ). Reached depth xs i) e r
 
+-- of no bits everything is told
+pub none_told : (depth : Depth) (byte : ℕ) → IsTold depth byte 0
+none_told depth byte bytes place e room r = at_start depth (bits_of bytes) place r
+
 pub two_told : (byte : ℕ) → byte < 256 → IsTold Two byte (get_or TWO_BIT_STEPS byte 0)
 two_told byte small bytes place e room r =
     let is : get_or TWO_BIT_STEPS byte 0 ≡ two_steps byte =

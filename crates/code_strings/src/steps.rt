@@ -2,6 +2,8 @@ ghost use Rattle.std.specs.Prelude.{◌≤◌};
 ghost use Rattle.sub_base.specs.declared.depth.Depth.TheVariants.{Two, Four};
 ghost use Rattle.code_strings.specs.Reached.{IsTold};
 
+use sub_base::Depth;
+
 /// How many bits the 2 bit codes take that each byte begins and tells.
 #[rattlefmt::skip]
 static TWO_BIT_STEPS: [u8; 256] = [
@@ -44,10 +46,23 @@ static FOUR_BIT_STEPS: [u8; 256] = [
     4, 8, 8, 8, 8, 8, 8, 8, 8, 8, 8, 8, 8, 8, 8, 8,
 ];
 
-/// How many bits the 2 bit codes take that a byte begins, as far as its own bits tell how many
-/// they are; 0 where it begins an end, and where it does not tell.
+/// How many bits the codes of a depth take that a byte begins, as far as its own bits tell how many
+/// they are; 0 where it begins an end, and where it does not tell. Of 8 bit codes it tells nothing.
 #[inline(always)]
-pub(crate) fn two_bit_steps(byte: u8) -> usize
+pub(crate) fn told_steps(byte: u8, depth: Depth) -> usize
+    ensures told { IsTold depth byte result }
+    ensures few { result ≤ 24 }
+{
+    match depth {
+        Depth::Two => two_bit_steps(byte),
+        Depth::Four => four_bit_steps(byte),
+        Depth::Eight => 0,
+    }
+}
+
+/// The same of 2 bit codes.
+#[inline(always)]
+fn two_bit_steps(byte: u8) -> usize
     ensures told { IsTold Two byte result }
     ensures few { result ≤ 24 }
 {
@@ -56,7 +71,7 @@ pub(crate) fn two_bit_steps(byte: u8) -> usize
 
 /// The same of 4 bit codes.
 #[inline(always)]
-pub(crate) fn four_bit_steps(byte: u8) -> usize
+fn four_bit_steps(byte: u8) -> usize
     ensures told { IsTold Four byte result }
     ensures few { result ≤ 24 }
 {

@@ -1,10 +1,10 @@
 ghost use Rattle.std.specs.Prelude.{◌≡◌, ◌+◌, ◌*◌, ◌≤◌, length, Some};
-ghost use Rattle.sub_base.specs.declared.depth.Depth.TheVariants.{Two, Four, Eight};
+ghost use Rattle.sub_base.specs.declared.depth.Depth.TheVariants.{Eight};
 ghost use Rattle.stream_syntax.specs.PixelCodes.{bits_of};
-ghost use Rattle.code_strings.specs.Reached.{Reached};
+ghost use Rattle.code_strings.specs.Reached.{Reached, ShowsBits};
 ghost use Rattle.code_strings.specs.Reading.{field_at};
 
-use crate::steps::{four_bit_steps, two_bit_steps};
+use crate::steps::told_steps;
 use sub_base::Depth;
 
 /// How many bits of a string of a depth are found to be whole codes, without a look at its last
@@ -15,38 +15,96 @@ pub(crate) fn quick_place(body: &[u8], depth: Depth) -> usize
     ensures { Reached depth (bits_of body.now) result }
 {
     match depth {
-        Depth::Two => two_bit_place(body),
-        Depth::Four => four_bit_place(body),
+        Depth::Two => narrow_place(body, Depth::Two),
+        Depth::Four => narrow_place(body, Depth::Four),
         Depth::Eight => eight_bit_place(body),
     }
 }
 
-/// The same of 2 bit codes: each byte at a place tells of several codes.
-fn two_bit_place(body: &[u8]) -> usize
+/// The same of 2 and 4 bit codes, of which each eight bits at a place tell several.
+#[inline(always)]
+fn narrow_place(body: &[u8], depth: Depth) -> usize
     requires { length body.now ≤ 65535 }
-    ensures { Reached Two (bits_of body.now) result }
+    ensures { Reached depth (bits_of body.now) result }
+{
+    let place = word_place(body, depth);
+    byte_place(body, depth, place)
+}
+
+/// The same, as far as eight bytes and more are there at a time.
+#[inline(always)]
+fn word_place(body: &[u8], depth: Depth) -> usize
+    requires { length body.now ≤ 65535 }
+    ensures { Reached depth (bits_of body.now) result }
 {
     let limit = body.len() * 8;
     let mut place = 0;
-    while place + 24 <= limit {
-        let steps = two_bit_steps(byte_at(body, place));
-        if steps == 0 {
+    // The last codes that a word tells begin within 49 bits, and take 24 at the most.
+    while place + 73 <= limit {
+        let passed = passed_in_word(body, depth, place);
+        place += passed;
+        if passed <= 49 {
             return place;
         }
-        place += steps;
     }
     place
 }
 
-/// The same of 4 bit codes.
-fn four_bit_place(body: &[u8]) -> usize
-    requires { length body.now ≤ 65535 }
-    ensures { Reached Four (bits_of body.now) result }
+/// How many bits from a place on are whole codes that a word there tells; at the most 49 where it
+/// does not tell the next one.
+#[inline(always)]
+fn passed_in_word(body: &[u8], depth: Depth, place: usize) -> usize
+    requires short { length body.now ≤ 65535 }
+    requires inside { place + 73 ≤ 8 * length body.now }
+    requires known { Reached depth (bits_of body.now) place }
+    ensures { Reached depth (bits_of body.now) (place + result) }
+{
+    let mut word = word_at(body, place);
+    let mut passed = 0;
+    // Behind 49 of the word's 57 bits there are eight to look at.
+    while passed <= 49 {
+        let steps = told_steps((word >> 56) as u8, depth);
+        if steps == 0 {
+            return passed;
+        }
+        word <<= steps;
+        passed += steps;
+    }
+    passed
+}
+
+/// A number whose highest 57 bits are those from a place on, out of eight bytes.
+#[inline(always)]
+fn word_at(body: &[u8], place: usize) -> u64
+    requires short { length body.now ≤ 65535 }
+    requires inside { place + 64 ≤ 8 * length body.now }
+    ensures { ShowsBits result 57 (bits_of body.now) place }
+{
+    let at = place / 8;
+    let whole = u64::from_be_bytes([
+        body[at],
+        body[at + 1],
+        body[at + 2],
+        body[at + 3],
+        body[at + 4],
+        body[at + 5],
+        body[at + 6],
+        body[at + 7],
+    ]);
+    whole << (place % 8)
+}
+
+/// How far whole codes are found behind a place, by two bytes at a time.
+#[inline(always)]
+fn byte_place(body: &[u8], depth: Depth, known: usize) -> usize
+    requires short { length body.now ≤ 65535 }
+    requires known { Reached depth (bits_of body.now) known }
+    ensures { Reached depth (bits_of body.now) result }
 {
     let limit = body.len() * 8;
-    let mut place = 0;
+    let mut place = known;
     while place + 24 <= limit {
-        let steps = four_bit_steps(byte_at(body, place));
+        let steps = told_steps(byte_at(body, place), depth);
         if steps == 0 {
             return place;
         }
