@@ -14,6 +14,7 @@ pub mod Steps
 pub mod Sizes
 mod RowSizes
 mod LaneRuns
+mod RunEnds
 pub mod BlockParts
 pub mod OneBlock
 pub mod OneString

@@ -2,15 +2,17 @@
 use Rattle.std.proofs.Common.{◌≡◌, ℕ, zero, suc, ◌+◌, ◌-◌, ◌*◌, ◌^◌, ◌<◌, ◌≤◌, Bool, true, false, cond, eqb, List, [], ◌∷◌, ◌++◌, length, get_or, take, drop, refl, sym, ap, ◌∙◌, append_assoc, arith}
 use Rattle.std.specs.Prelude.{flat_map, replicate, take_while}
 use Rattle.std.specs.List.{prefix_len}
-use Rattle.std.proofs.lemmas.Bool.{eq-eqb, ne_eqb, eqb-true, eqb-false}
+use Rattle.std.proofs.lemmas.Bool.{eq-eqb, ne_eqb, eqb-true, eqb-false, not-true, not-false}
 use Rattle.std.proofs.lemmas.List.{append-nil, drop_more, length-take, length-drop, drop-drop, drop_all, take_rest}
 use Rattle.std.proofs.lemmas.List.Concat.{flat_map-append}
+use Rattle.std.proofs.lemmas.List.Sums.{prefix_len-drop_yes, prefix_len-drop_no}
 use Rattle.sub_base.specs.Depth.{code_count}
 use Rattle.sub_base.specs.declared.depth.Depth.{Depth}
 use Rattle.sub_base.specs.declared.depth.Depth.TheVariants.{Two, Four, Eight}
 use Rattle.stream_syntax.specs.PixelCodes.{bits, Code, pixel, one_zero, two_zeros, zeros, short_run, middle_run, long_run, IsCode, pixel_count, spelled, ending, string_of, Span}
 use Rattle.pixel_codes.specs.Private.Least.{first_code, chosen_within, chosen}
-use Rattle.pixel_codes.specs.Private.Rows.{span_of, extended, runs_of, codes_of}
+use Rattle.pixel_codes.specs.Private.Maximal.{ends_at, IsOneRun}
+use Rattle.pixel_codes.specs.Private.Rows.{span_of, extended, runs_of, codes_of, text_from}
 use Rattle.pixel_codes.specs.Private.Spelling.{width_of, value_of}
 use Rattle.code_strings.proofs.Bits.{bits-join}
 use Rattle.pixel_codes.proofs.DeepFirst.{first_is}
@@ -262,26 +264,16 @@ no_code depth code left before whole h t =
     ∙ ap (λ (s : List Code). before ++ flat_map (spelled depth) s)
     (sym (ap (chosen depth code) z ∙ chosen_none depth code)) ∙ t
 
--- one run of a row
-pub one_run : (depth : Depth) (row : List ℕ) (place count : ℕ) (before after whole : List ℕ)
-    → place < length row
-    → count ≡ length
-    (take_while (λ x. eqb x (get_or (take (length row - place) (drop place row)) 0 0))
-    (take (length row - place) (drop place row))) →
-    after ≡ before ++ flat_map (spelled depth) (chosen depth (get_or row place 0) count)
-    → before ++ flat_map (spelled depth) (codes_of depth (runs_of (drop place row))) ≡ whole →
-    (1 ≤ count) × (place + count ≤ length row)
-    × (after ++ flat_map (spelled depth) (codes_of depth (runs_of (drop (place + count) row))) ≡ whole)
-one_run depth row place count before after whole h n e t =
-    let c = get_or row place 0 in
-    let cut : take (length row - place) (drop place row) ≡ drop place row = take_rest row place in
-    let same : get_or (drop place row) 0 0 ≡ c = ap (λ (s : List ℕ). get_or s 0 0) (drop_more row place 0 h) in
-    let m : count ≡ front c (drop place row) =
-    n ∙ ap (λ (s : List ℕ). length (take_while (λ x. eqb x (get_or s 0 0)) s)) cut
-    ∙ ap (λ (y : ℕ). length (take_while (λ x. eqb x y) (drop place row))) same
-    ∙ taken_front c (drop place row) in
-    let r = next_run row place count h m in
-    let rest = codes_of depth (runs_of (drop (place + count) row)) in (
+-- one run of a row, counted from its first pixel
+run_put : (depth : Depth) (row : List ℕ) (from count : ℕ) (before after whole : List ℕ) → from < length row
+    → count ≡ front (get_or row from 0) (drop from row)
+    → after ≡ before ++ flat_map (spelled depth) (chosen depth (get_or row from 0) count)
+    → before ++ text_from depth row from ≡ whole →
+    (1 ≤ count) × (from + count ≤ length row) × (after ++ text_from depth row (from + count) ≡ whole)
+run_put depth row from count before after whole h n e t =
+    let c = get_or row from 0 in
+    let r = next_run row from count h n in
+    let rest = codes_of depth (runs_of (drop (from + count) row)) in (
       r.0,
       r.1,
       ap (λ (s : List ℕ). s ++ flat_map (spelled depth) rest) e
@@ -290,13 +282,77 @@ one_run depth row place count before after whole h n e t =
           (sym (flat_map-append (spelled depth) (chosen depth c count) rest)
           ∙ ap (flat_map (spelled depth))
           (sym (ap (codes_of depth) r.2
-          ∙ codes_of-cons depth (span_of count c) (runs_of (drop (place + count) row)))))
+          ∙ codes_of-cons depth (span_of count c) (runs_of (drop (from + count) row)))))
           ∙ t,
     )
 
+-- a run of which some pixels are passed
+passed : (row : List ℕ) (gap from at : ℕ) → from + gap ≡ at → at < length row → IsOneRun row from at →
+    (get_or row from 0 ≡ get_or row at 0)
+    × (front (get_or row from 0) (drop from row) ≡ gap + front (get_or row at 0) (drop at row))
+passed row zero from at e h alike =
+    let s : from ≡ at = omega (arith, e) in
+    let same : front (get_or row from 0) (drop from row) ≡ front (get_or row at 0) (drop at row) =
+    ap (λ (n : ℕ). front (get_or row n 0) (drop n row)) s in
+    (ap (λ (n : ℕ). get_or row n 0) s, omega (arith, same))
+passed row (suc gap) from at e h alike =
+    let same : get_or row from 0 ≡ get_or row (from + 1) 0 =
+    eqb-true (get_or row from 0) (get_or row (from + 1) 0)
+    (not-false _ (alike from (omega arith) (omega (arith, e)))) in
+    let first : front (get_or row from 0) (drop from row)
+    ≡ 1 + front (get_or row (from + 1) 0) (drop (from + 1) row) =
+    prefix_len-drop_yes (λ x. eqb x (get_or row from 0)) row from 0 (omega (arith, e, h))
+    (eq-eqb (get_or row from 0) (get_or row from 0) refl)
+    ∙ ap (λ (c : ℕ). 1 + front c (drop (from + 1) row)) same in
+    let rest =
+    passed row gap (from + 1) at (omega (arith, e)) h (λ place low high. alike place (omega (arith, low)) high) in
+    (same ∙ rest.0, omega (arith, first, rest.1))
+
+-- the run whose last pixel this is
+pub last_of_run : (row : List ℕ) (at : ℕ) → at + 1 < length row → ends_at row at ≡ true
+    → 1 ≡ front (get_or row at 0) (drop at row)
+last_of_run row at h e =
+    let c = get_or row at 0 in
+    let other : eqb c (get_or row (at + 1) 0) ≡ false = not-true _ e in
+    let yes = prefix_len-drop_yes (λ x. eqb x c) row at 0 (omega (arith, h)) (eq-eqb c c refl) in
+    let no =
+    prefix_len-drop_no (λ x. eqb x c) row (at + 1) 0 h
+    (ne_eqb (get_or row (at + 1) 0) c (λ f. eqb-false c (get_or row (at + 1) 0) other (sym f))) in
+    omega (arith, yes, no)
+
+-- a run that was counted from a pixel on
+pub counted_from : (row : List ℕ) (at count : ℕ) → at < length row
+    → count ≡ length
+    (take_while (λ x. eqb x (get_or (take (length row - at) (drop at row)) 0 0))
+    (take (length row - at) (drop at row))) →
+    count ≡ front (get_or row at 0) (drop at row)
+counted_from row at count h n =
+    let cut : take (length row - at) (drop at row) ≡ drop at row = take_rest row at in
+    let same : get_or (drop at row) 0 0
+    ≡ get_or row at 0 = ap (λ (s : List ℕ). get_or s 0 0) (drop_more row at 0 h) in
+    n ∙ ap (λ (s : List ℕ). length (take_while (λ x. eqb x (get_or s 0 0)) s)) cut
+    ∙ ap (λ (y : ℕ). length (take_while (λ x. eqb x y) (drop at row))) same
+    ∙ taken_front (get_or row at 0) (drop at row)
+
+-- one run of a row, which was followed up to a pixel and has so many from there on
+pub one_run : (depth : Depth) (row : List ℕ) (from at more count : ℕ) (before after whole : List ℕ) → from ≤ at
+    → at < length row → IsOneRun row from at → more ≡ front (get_or row at 0) (drop at row) → count ≡ at + more - from
+    → after ≡ before ++ flat_map (spelled depth) (chosen depth (get_or row at 0) count)
+    → before ++ text_from depth row from ≡ whole →
+    (1 ≤ more) × (at + more ≤ length row) × (after ++ text_from depth row (at + more) ≡ whole)
+one_run depth row from at more count before after whole low h alike m n e t =
+    let p = passed row (at - from) from at (omega (arith, low)) h alike in
+    let code = ap (λ (c : ℕ). before ++ flat_map (spelled depth) (chosen depth c count)) (sym p.0) in
+    let put =
+    run_put depth row from count before after whole (omega (arith, low, h)) (omega (arith, p.1, m, n, low)) (e ∙ code)
+    t in
+    let on : from + count ≡ at + more = omega (arith, n, low) in
+    let run = next_run row at more h m in
+    (run.0, run.1, ap (λ (k : ℕ). after ++ text_from depth row k) (sym on) ∙ put.2)
+
 -- at the end of a row
 pub no_run : (depth : Depth) (row : List ℕ) (place : ℕ) (before whole : List ℕ) → length row ≤ place
-    → before ++ flat_map (spelled depth) (codes_of depth (runs_of (drop place row))) ≡ whole → before ≡ whole
+    → before ++ text_from depth row place ≡ whole → before ≡ whole
 no_run depth row place before whole h t =
     sym (append-nil before)
     ∙ ap (λ (s : List Code). before ++ flat_map (spelled depth) s)

@@ -1,7 +1,8 @@
-ghost use Rattle.std.specs.Prelude.{◌≡◌, ◌==◌, ◌+◌, ◌<◌, ◌≤◌, length, slice_index, take_while, map, drop};
+ghost use Rattle.std.specs.Prelude.{◌≡◌, ℕ, ◌==◌, ◌+◌, ◌<◌, ◌≤◌, if◌then◌else◌, length, slice_index, take_while, map, drop};
+ghost use Rattle.std.specs.Int.{bit_at};
 ghost use Rattle.std.specs.List.{prefix_len};
 ghost use Rattle.std.specs.Simd.Lanes.{mask_l};
-ghost use Rattle.pixel_codes.specs.Private.Maximal.{is_code, differs};
+ghost use Rattle.pixel_codes.specs.Private.Maximal.{is_code, differs, ends_at};
 
 use std::simd::prelude::*;
 
@@ -61,4 +62,17 @@ fn differing(lanes: u8x16, code: u8) -> u64
     ensures { result ≡ mask_l (map (differs code) lanes) }
 {
     lanes.simd_ne(u8x16::splat(code)).to_bitmask()
+}
+
+/// A bit for each of 64 pixels from a place on, the first pixel's the lowest: it is set where the
+/// next pixel has another code, so that a run ends.
+#[inline(always)]
+pub(crate) fn ends_of_block(codes: &[u8], at: usize) -> u64
+    requires { at + 65 ≤ length codes.now }
+    ensures { (bit : ℕ) → bit < 64
+        → bit_at result bit ≡ (if ends_at codes.now (at + bit) then 1 else 0) }
+{
+    u8x64::from_slice(&codes[at..])
+        .simd_ne(u8x64::from_slice(&codes[at + 1..]))
+        .to_bitmask()
 }

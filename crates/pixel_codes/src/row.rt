@@ -1,13 +1,14 @@
-ghost use Rattle.std.specs.Prelude.{◌≡◌, ℕ, ◌==◌, ◌+◌, ◌*◌, ◌<◌, ◌≤◌, List, ◌++◌, length, replicate, flat_map, All, OnOk, OnErr};
+ghost use Rattle.std.specs.Prelude.{◌≡◌, ℕ, ◌==◌, ◌+◌, ◌*◌, ◌<◌, ◌≤◌, List, ◌++◌, length, replicate, flat_map, All, IfOk, OnOk, OnErr};
 ghost use Rattle.sub_base.specs.Depth.{code_count};
 ghost use Rattle.stream_syntax.specs.PixelCodes.{bits, bits_of, spelled, ending, string_of, IsRowString, IsRowSize, IsReadAs};
 ghost use Rattle.pixel_codes.specs.Private.Least.{chosen};
 ghost use Rattle.pixel_codes.specs.Lists.{Extends};
-ghost use Rattle.pixel_codes.specs.Private.Rows.{runs_of, codes_of};
+ghost use Rattle.pixel_codes.specs.Private.Maximal.{GoesOn};
+ghost use Rattle.pixel_codes.specs.Private.Rows.{runs_of, codes_of, text_from};
 ghost use Rattle.pixel_codes.specs.Private.Stream.{stream};
 
 use crate::choice::first_spelling;
-use crate::maximal::run_length;
+use crate::maximal::{ends_of_block, run_length};
 use crate::pending::Pending;
 use crate::run_table::two_bit_run;
 use sub_base::{Depth, NoMemory};
@@ -62,14 +63,75 @@ fn append_row_of(depth: Depth, codes: &[u8], out: &mut Vec<u8>) -> Result<(), No
     ensures extends { Extends out.old.items out.new.items }
 {
     let mut pending = Pending::none();
-    let mut place = 0;
-    while place < codes.len() {
-        let count = run_length(&codes[place..]);
-        append_run(depth, codes[place], count, &mut pending, out)?;
-        place += count;
+    let mut from = 0;
+    let mut at = 0;
+    // The last pixel of a block is compared with the one behind it, so that up to 64 are left.
+    while codes.len() - at > 64 {
+        from = append_ended(depth, codes, from, at, &mut pending, out)?;
+        at += 64;
     }
+    append_rest(depth, codes, from, at, &mut pending, out)?;
     append_end(depth, &mut pending, out)?;
     pending.finish(out)
+}
+
+/// Appends the runs that end in the 64 pixels from `at` on, of which the first begins at `begin`,
+/// and answers where the run behind them begins.
+#[inline(always)]
+fn append_ended(
+    depth: Depth,
+    codes: &[u8],
+    begin: usize,
+    at: usize,
+    pending: &mut Pending,
+    out: &mut Vec<u8>,
+) -> Result<usize, NoMemory>
+    requires codes { All (λ code. code < code_count depth) codes.now }
+    requires block { at + 65 ≤ length codes.now }
+    requires run { GoesOn codes.now begin at }
+    ensures text { IfOk result (λ next.
+        stream out.new.items pending.new ++ text_from depth codes.now next
+        ≡ stream out.old.items pending.old ++ text_from depth codes.now begin) }
+    ensures run { IfOk result (λ next. GoesOn codes.now next (at + 64)) }
+    ensures extends { Extends out.old.items out.new.items }
+{
+    // Text has runs of few pixels, and a search for the end of each costs more.
+    let mut ends = ends_of_block(codes, at);
+    let mut from = begin;
+    while ends != 0 {
+        let last = at + ends.trailing_zeros() as usize;
+        append_run(depth, codes[last], last + 1 - from, pending, out)?;
+        from = last + 1;
+        ends &= ends - 1;
+    }
+    Ok(from)
+}
+
+/// Appends the runs from `begin` on, of which the first goes on at `reached`.
+#[inline(always)]
+fn append_rest(
+    depth: Depth,
+    codes: &[u8],
+    begin: usize,
+    reached: usize,
+    pending: &mut Pending,
+    out: &mut Vec<u8>,
+) -> Result<(), NoMemory>
+    requires codes { All (λ code. code < code_count depth) codes.now }
+    requires run { GoesOn codes.now begin reached }
+    ensures text { OnOk result (stream out.new.items pending.new
+        ≡ stream out.old.items pending.old ++ text_from depth codes.now begin) }
+    ensures extends { Extends out.old.items out.new.items }
+{
+    let mut from = begin;
+    let mut at = reached;
+    while at < codes.len() {
+        let end = at + run_length(&codes[at..]);
+        append_run(depth, codes[at], end - from, pending, out)?;
+        from = end;
+        at = end;
+    }
+    Ok(())
 }
 
 /// Appends the codes of a run.

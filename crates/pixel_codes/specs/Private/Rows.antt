@@ -1,7 +1,7 @@
 -- The codes that the writer chooses for a row.
-use Rattle.std.specs.Prelude.{ℕ, ◌+◌, ◌==◌, if◌then◌else◌, List, [], ◌∷◌, flat_map}
+use Rattle.std.specs.Prelude.{ℕ, ◌+◌, ◌==◌, if◌then◌else◌, List, [], ◌∷◌, drop, flat_map}
 use Rattle.sub_base.specs.declared.depth.Depth.{Depth}
-use Rattle.stream_syntax.specs.PixelCodes.{Code, Span}
+use Rattle.stream_syntax.specs.PixelCodes.{Code, Span, spelled}
 use Rattle.pixel_codes.specs.Private.Least.{chosen}
 
 abbrev pub span_of : ℕ → ℕ → Span
@@ -20,3 +20,7 @@ runs_of (code ∷ codes) = extended code (runs_of codes)
 
 unfoldable pub codes_of : Depth → List Span → List Code
 codes_of depth spans = flat_map (λ span. chosen depth span.code span.count) spans
+
+-- the bits of the runs from a place of a row on
+abbrev pub text_from : Depth → List ℕ → ℕ → List ℕ
+text_from depth codes place = flat_map (spelled depth) (codes_of depth (runs_of (drop place codes)))

@@ -1,19 +1,18 @@
-use Rattle.std.proofs.Common.{◌≡◌, ◌≤◌, ◌-◌, ◌++◌, length, drop}
-use Rattle.std.specs.Prelude.{flat_map}
-use Rattle.stream_syntax.specs.PixelCodes.{bits_of, spelled}
+use Rattle.std.proofs.Common.{◌≡◌, ◌-◌, ◌++◌, length}
+use Rattle.stream_syntax.specs.PixelCodes.{bits_of}
 use Rattle.pixel_codes.specs.Lists.{Extends}
-use Rattle.pixel_codes.specs.Private.Rows.{runs_of, codes_of}
+use Rattle.pixel_codes.specs.Private.Maximal.{GoesOn}
+use Rattle.pixel_codes.specs.Private.Rows.{text_from}
 use Rattle.pixel_codes.specs.Private.Stream.{stream}
 use Rattle.pixel_codes.proofs.row.append_row_of.Given as goal
 
-abbrev pub invariant-loop-place : goal.invariant-loop-place
-invariant-loop-place l = record {
-  within : l.place ≤ length l.codes;
-  text : stream l.out.items l.pending
-      ++ flat_map (spelled l.depth) (codes_of l.depth (runs_of (drop l.place l.codes))) ≡ bits_of l.fn.out.items
-      ++ flat_map (spelled l.depth) (codes_of l.depth (runs_of l.codes));
+abbrev pub invariant-loop-at : goal.invariant-loop-at
+invariant-loop-at l = record {
+  run : GoesOn l.codes l.from l.at;
+  text : stream l.out.items l.pending ++ text_from l.depth l.codes l.from
+      ≡ bits_of l.fn.out.items ++ text_from l.depth l.codes 0;
   extends : Extends l.fn.out.items l.out.items;
 }
 
-abbrev pub decreases-loop-place : goal.decreases-loop-place
-decreases-loop-place l = length l.codes - l.place
+abbrev pub decreases-loop-at : goal.decreases-loop-at
+decreases-loop-at l = length l.codes - l.at
