@@ -25,7 +25,8 @@ unfolding field_at
 shown_byte xs place count word h small room e =
     let t : ltb (length xs) (place + 8) ≡ false = le-ltb _ _ room in
     let first : take 8 (bits 64 word) ≡ bits 8 (word / 2 ^ 56) =
-    ap (take 8) (bits-add 8 56 word) ∙ take_at (bits 8 (word / 2 ^ 56)) (bits 56 word) 8 (length-bits 8 (word / 2 ^ 56)) in
+    ap (take 8) (bits-add 8 56 word)
+    ∙ take_at (bits 8 (word / 2 ^ 56)) (bits 56 word) 8 (length-bits 8 (word / 2 ^ 56)) in
     let same : take 8 (drop place xs) ≡ bits 8 (word / 2 ^ 56) = sym (shown_less xs place count word 8 h e) ∙ first in
     let m : word / 2 ^ 56 % 2 ^ 8 ≡ word / 2 ^ 56 = omega arith in
     rw (t, same) (ap Some (number_of-bits 8 (word / 2 ^ 56) ∙ m))
