@@ -1,13 +1,13 @@
 -- What is listed of the pages of a PID, with one segment more, and once a PES packet has ended.
-use Rattle.std.proofs.Common.{◌≡◌, ℕ, suc, ◌+◌, ◌<◌, ◌≤◌, ◌==◌, ◌∙◌, ◌⊎◌, inl, inr, nat_lt, Bool, true, false, ◌||◌, List, [], ◌∷◌, ◌++◌, length, map, take, ap, arith, refl, sym, subst}
+use Rattle.std.proofs.Common.{◌≡◌, ℕ, suc, ◌<◌, ◌≤◌, ◌==◌, ◌∙◌, ◌⊎◌, inl, inr, nat_lt, Bool, true, false, ◌||◌, List, [], ◌∷◌, ◌++◌, length, map, take, ap, arith, refl, sym, subst}
 use Rattle.std.specs.List.{AllByRecursion}
 use Rattle.std.proofs.lemmas.Bool.Decides.{eqb_tells, leb_tells, nat_tests}
-use Rattle.std.proofs.lemmas.List.{length-take, length-map, take-map, take_all, take-append-le, append-nil}
+use Rattle.std.proofs.lemmas.List.{length-take, length-map, take-map, take_all, take-append-le}
 use Rattle.pid_text.specs.PidText.{AreRising, AreTold, IsLeftOut, is_in}
 use Rattle.pid_text.specs.PidUnits.{Head, SubtitleUnit, is_named}
 use Rattle.pid_text.specs.Private.Listing.{IsListing, IsPassedOver, IsTallied, PageListing, closed, fresh, is_met, noted, pages_of, with_segment}
 use Rattle.pid_text.specs.declared.page_tally.PageTally.{PageTally}
-use Rattle.pid_text.proofs.ListedPages.{all_in, all_map, all_of_map, all_take, all_weaker, closed_page, fresh_page, higher_than_first, in_take, noted_all, noted_by_first, noted_is_in, noted_last, noted_length, noted_rising, rising_take, segment_page, some_dropped}
+use Rattle.pid_text.proofs.ListedPages.{all_in, all_map, all_of_map, all_take, all_weaker, closed_page, higher_than_first, in_take, noted_all, noted_by_first, noted_is_in, noted_last, noted_length, noted_rising, rising_take, some_dropped}
 use Rattle.pid_text.proofs.Tallies.{met_more, named_more, tallied_closed, tallied_fresh, tallied_other, tallied_same}
 
 -- no page of no segment

@@ -1,9 +1,8 @@
 -- Where a segment is counted among entries in rising order.
-use Rattle.std.proofs.Common.{◌≡◌, ℕ, zero, suc, ◌+◌, ◌<◌, ◌≤◌, ◌==◌, ◌∙◌, true, false, List, [], ◌∷◌, length, set, get_or, ap, arith, refl, sym, Bool, Result, Ok, ◌||◌, nat_lt, if◌then◌else◌, is_ok, subst, take}
+use Rattle.std.proofs.Common.{◌≡◌, ℕ, zero, suc, ◌<◌, ◌≤◌, ◌==◌, ◌∙◌, true, false, List, [], ◌∷◌, length, set, get_or, ap, arith, refl, sym, Bool, Result, Ok, ◌||◌, nat_lt, if◌then◌else◌, is_ok, subst, take}
 use Rattle.std.specs.List.{insert}
 use Rattle.std.proofs.lemmas.List.{take_all}
 use Rattle.std.proofs.lemmas.Bool.Decides.{nat_tests}
-use Rattle.stream_syntax.specs.declared.wire.TheConstants.{PAGE_COMPOSITION}
 use Rattle.pid_text.specs.PidUnits.{Head}
 use Rattle.pid_text.specs.Private.Listing.{PageListing, fresh, noted, with_segment}
 use Rattle.pid_text.specs.declared.page_tally.PageTally.{PageTally}

@@ -1,5 +1,5 @@
 -- What is told of all PIDs.
-use Rattle.std.proofs.Common.{◌≡◌, ℕ, suc, ◌+◌, ◌<◌, ◌==◌, ◌∙◌, ◌⊎◌, inl, inr, Bool, true, false, if◌then◌else◌, List, [], ◌∷◌, ◌++◌, length, map, get_or, set, ap, arith, refl, sym, subst, take, Option, Some, None, Result, Ok, Err, IfOk, add-one, append-nil}
+use Rattle.std.proofs.Common.{◌≡◌, ℕ, ◌+◌, ◌<◌, ◌==◌, ◌∙◌, ◌⊎◌, inl, inr, Bool, true, false, if◌then◌else◌, List, [], ◌∷◌, ◌++◌, length, get_or, set, ap, arith, refl, sym, subst, take, Option, Some, None, Result, Ok, Err, IfOk, add-one, append-nil}
 use Rattle.std.specs.List.{AllByRecursion, flat_map}
 use Rattle.std.proofs.lemmas.List.{get_or-set_other, get_or-set_same, get_or_default, length-set, nil_from_length, take_more}
 use Rattle.std.specs.Result.{is_err}
@@ -10,8 +10,8 @@ use Rattle.command_text.specs.Putting.{Buffered, PutsOut}
 use Rattle.stream_syntax.specs.TransportPackets.{pid_of}
 use Rattle.sub_base.specs.Endpoints.{Received}
 use Rattle.sub_base.specs.declared.faults.NoMemory.{NoMemory}
-use Rattle.pid_text.specs.PidText.{IsPidsText, IsUnitsText, PIDS, counted, more_where, no_unit, page_line, page_text, pid_line, some_units, texts_below, times_part, units_part}
-use Rattle.pid_text.specs.PidUnits.{SubtitleUnit, subtitles_of, units_of, watched}
+use Rattle.pid_text.specs.PidText.{IsPidsText, IsUnitsText, PIDS, more_where, no_unit, page_line, page_text, some_units, texts_below, times_part, units_part}
+use Rattle.pid_text.specs.PidUnits.{SubtitleUnit, subtitles_of, units_of}
 use Rattle.pid_text.specs.Private.Listing.{IsTallied, pages_of}
 use Rattle.pid_text.specs.Private.Tallying.{HasTallied}
 use Rattle.pid_text.specs.Private.Telling.{entry_text, listing_text, no_slot, slot_text, slots_text, tally_text, watch_text}

@@ -1,19 +1,18 @@
 -- What is counted of the PES packets of a PID, with one more.
-use Rattle.std.proofs.Common.{◌≡◌, ℕ, ◌+◌, ◌-◌, ◌^◌, ◌∙◌, ◌⊎◌, inl, inr, false, List, [], ◌∷◌, ◌++◌, length, map, min, reverse, ap, arith, refl, sym, subst, Some, None, filter_map, Result, Ok, Err, append-nil, append_assoc}
+use Rattle.std.proofs.Common.{◌≡◌, ℕ, ◌+◌, ◌-◌, ◌^◌, ◌∙◌, ◌⊎◌, inl, inr, false, List, [], ◌∷◌, ◌++◌, map, min, ap, arith, sym, subst, Some, None, filter_map, Ok, Err, append-nil, append_assoc}
 use Rattle.std.proofs.lemmas.List.{length_push, reverse-append}
-use Rattle.stream_syntax.specs.DataField.{Frame, broken, frames_of, segment}
+use Rattle.stream_syntax.specs.DataField.{Frame, frames_of}
 use Rattle.stream_syntax.specs.Pes.{pes_of}
 use Rattle.stream_syntax.specs.Tests.{byte_at, word_at}
 use Rattle.stream_syntax.specs.declared.pes.PesFault.{PesFault}
-use Rattle.stream_syntax.specs.declared.segment_fault.SegmentFault.{SegmentFault}
 use Rattle.segments.specs.Framing.{IsFirstFrame}
 use Rattle.segments.specs.declared.frame.Frame.{Frame as FrameOfBytes}
-use Rattle.pid_text.specs.PidText.{counted, first_time, last_time}
+use Rattle.pid_text.specs.PidText.{first_time}
 use Rattle.pid_text.specs.PidUnits.{Head, SubtitleUnit, head_in, heads_of, read_as, subtitles_in}
-use Rattle.pid_text.specs.Private.Listing.{IsListing, PageListing, closed, noted}
-use Rattle.pid_text.specs.Private.Tallying.{HasNoted, HasTallied, with_one}
+use Rattle.pid_text.specs.Private.Listing.{IsListing, PageListing, closed}
+use Rattle.pid_text.specs.Private.Tallying.{HasNoted, HasTallied}
 use Rattle.pid_text.specs.declared.pid_tally.PidTally.{PidTally}
-use Rattle.pid_text.proofs.ListingLaws.{listing_closed, listing_noted, nothing_listed}
+use Rattle.pid_text.proofs.ListingLaws.{listing_closed, nothing_listed}
 
 -- nothing was counted
 pub nothing_tallied : (tally : PidTally) → tally.units ≡ 0 → tally.first ≡ 0 → tally.last ≡ 0

@@ -1,8 +1,8 @@
 -- What is read of one PID, with one packet more.
-use Rattle.std.proofs.Common.{◌≡◌, ℕ, ◌+◌, ◌<◌, ◌==◌, ◌∙◌, ◌&&◌, nat_eq, Bool, true, false, if◌then◌else◌, List, [], ◌∷◌, ◌++◌, length, ap, arith, refl, sym, subst, Option, Some, None, append-nil}
+use Rattle.std.proofs.Common.{◌≡◌, ℕ, ◌<◌, ◌==◌, ◌∙◌, ◌&&◌, Bool, true, false, if◌then◌else◌, List, [], ◌∷◌, ◌++◌, length, ap, arith, refl, sym, subst, Option, Some, None, append-nil}
 use Rattle.std.specs.List.{filter, filter_map}
 use Rattle.std.specs.Option.{is_none, option_and_then}
-use Rattle.std.proofs.lemmas.List.{length_push, nil_from_length}
+use Rattle.std.proofs.lemmas.List.{length_push}
 use Rattle.std.proofs.lemmas.List.Elements.{filter-append, filter_map-append}
 use Rattle.std.proofs.lemmas.Bool.Decides.{nat_tests}
 use Rattle.stream_syntax.specs.TransportPackets.{packet_fault, pid_of}
@@ -12,7 +12,7 @@ use Rattle.ts_packets.proofs.UnitLemmas.{each_after_push}
 use Rattle.ts_packets.specs.Demuxing.{Demuxing, DemuxesOn, HasDemuxed}
 use Rattle.pid_text.specs.PidUnits.{SubtitleUnit, UNIT_LIMIT, begins_private, from_first, is_own, subtitles_in, subtitles_of, watched}
 use Rattle.pid_text.specs.Private.Tallying.{HasTallied, with_one}
-use Rattle.pid_text.specs.Private.Watching.{BeginsWith, FeedsOn, IsSlot, IsWatch, IsWatching}
+use Rattle.pid_text.specs.Private.Watching.{BeginsWith, FeedsOn, IsWatch, IsWatching}
 use Rattle.pid_text.specs.declared.pid_tally.PidTally.{PidTally}
 use Rattle.pid_text.specs.declared.watch.Watch.{Watch}
 

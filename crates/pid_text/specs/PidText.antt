@@ -1,6 +1,6 @@
 -- What `pids` tells of the PIDs of a stream: of each PID with PES packets of subtitles how many there are, the times of
 -- the first and the last, and the pages that they name.
-use Rattle.std.specs.Prelude.{◌≡◌, ℕ, zero, suc, ◌+◌, ◌<◌, ◌≤◌, ◌==◌, Bool, true, false, if◌then◌else◌, List, [], ◌∷◌, ◌++◌, length, reverse, min, codes, ◌-◌, ◌^◌}
+use Rattle.std.specs.Prelude.{◌≡◌, ℕ, zero, suc, ◌<◌, ◌≤◌, ◌==◌, Bool, true, false, if◌then◌else◌, List, [], ◌∷◌, ◌++◌, length, reverse, min, codes, ◌-◌, ◌^◌}
 use Rattle.std.specs.List.{AllByRecursion, flat_map, list_any}
 use Rattle.command_text.specs.Lines.{line_end, then_number}
 use Rattle.pid_text.specs.PidUnits.{SubtitleUnit, ancillaries, compositions, is_named, units_of}

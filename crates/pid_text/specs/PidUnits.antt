@@ -1,5 +1,5 @@
 -- The PES packets of subtitles of each PID of a stream, and the pages of their segments.
-use Rattle.std.specs.Prelude.{ℕ, ◌==◌, nat_lt, not, Bool, ◌&&◌, ◌||◌, if◌then◌else◌, List, [], ◌∷◌, filter, filter_map, count_by, sum_by, Option, Some, None, option_and_then, Result, Ok, Err, zip}
+use Rattle.std.specs.Prelude.{ℕ, ◌==◌, not, Bool, ◌&&◌, ◌||◌, if◌then◌else◌, List, [], ◌∷◌, filter, filter_map, count_by, sum_by, Option, Some, None, option_and_then, Result, Ok, Err, zip}
 use Rattle.std.specs.List.{list_all, list_any}
 use Rattle.std.specs.Option.{is_none}
 use Rattle.stream_syntax.specs.DataField.{Frame, segment, broken, frames_of}

@@ -1,5 +1,5 @@
 -- What is kept of the pages of a PID, between the segments of its PES packets.
-use Rattle.std.specs.Prelude.{◌≡◌, ℕ, ◌+◌, ◌<◌, ◌≤◌, ◌==◌, nat_lt, Bool, true, false, ◌||◌, if◌then◌else◌, List, [], ◌∷◌, ◌++◌, length, map, take, count_by}
+use Rattle.std.specs.Prelude.{◌≡◌, ℕ, ◌+◌, ◌<◌, ◌≤◌, ◌==◌, nat_lt, Bool, true, false, ◌||◌, if◌then◌else◌, List, [], ◌∷◌, length, map, count_by}
 use Rattle.std.specs.List.{AllByRecursion}
 use Rattle.stream_syntax.specs.declared.wire.TheConstants.{CLUT_DEFINITION, OBJECT_DATA, PAGE_COMPOSITION}
 use Rattle.pid_text.specs.PidUnits.{Head, SubtitleUnit, ancillaries, compositions, has_composition, has_page, is_ancillary, is_named}

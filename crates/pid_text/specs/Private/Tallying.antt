@@ -1,5 +1,5 @@
 -- What is counted of the PES packets of one PID.
-use Rattle.std.specs.Prelude.{◌≡◌, ℕ, List, [], ◌∷◌, ◌++◌, length, filter_map, Option, Some, None}
+use Rattle.std.specs.Prelude.{◌≡◌, List, [], ◌∷◌, ◌++◌, length, filter_map, Option, Some, None}
 use Rattle.stream_syntax.specs.DataField.{Frame}
 use Rattle.pid_text.specs.PidText.{counted, first_time, last_time}
 use Rattle.pid_text.specs.PidUnits.{Head, SubtitleUnit, head_in}

@@ -3,7 +3,7 @@ use Rattle.std.specs.Prelude.{◌≡◌, ℕ, ◌<◌, Bool, true, false, List, 
 use Rattle.stream_syntax.specs.TransportPackets.{packet_fault}
 use Rattle.stream_syntax.specs.declared.transport.PacketFault.{PacketFault}
 use Rattle.ts_packets.specs.Demuxing.{HasDemuxed}
-use Rattle.pid_text.specs.PidUnits.{UNIT_LIMIT, is_own, subtitles_of, watched}
+use Rattle.pid_text.specs.PidUnits.{UNIT_LIMIT, subtitles_of, watched}
 use Rattle.pid_text.specs.Private.Tallying.{HasTallied}
 use Rattle.pid_text.specs.declared.watch.Slot.{Slot}
 use Rattle.pid_text.specs.declared.watch.Watch.{Watch}

@@ -1,5 +1,4 @@
-use Rattle.std.proofs.Common.{◌≡◌, ◌∙◌, ◌≤◌, ◌<◌, ◌==◌, true, false, List, get_or, length, ap, arith, rules, sym, subst}
-use Rattle.std.specs.Vec.{vec_len}
+use Rattle.std.proofs.Common.{◌≡◌, ◌∙◌, ◌≤◌, ◌<◌, ◌==◌, true, false, List, get_or, length, ap, rules, sym, subst}
 use Rattle.pid_text.specs.Private.Listing.{with_segment}
 use Rattle.pid_text.specs.declared.page_tally.PageTally.{PageTally}
 use Rattle.pid_text.proofs.NotedLaws.{AreLower, inserted, noted_by, noted_there}

@@ -1,4 +1,4 @@
-use Rattle.std.proofs.Common.{◌≡◌, ◌∙◌, [], ◌∷◌, ◌++◌, Some, ap, filter_map, rules, subst, sym}
+use Rattle.std.proofs.Common.{◌≡◌, [], ◌∷◌, ◌++◌, Some, ap, filter_map, rules, subst, sym}
 use Rattle.stream_syntax.specs.DataField.{broken, frames_of}
 use Rattle.segments.specs.Framing.{IsFirstFrame, TellsFirst, frames_left}
 use Rattle.pid_text.specs.PidUnits.{head_in}

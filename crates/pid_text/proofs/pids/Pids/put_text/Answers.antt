@@ -1,4 +1,4 @@
-use Rattle.std.proofs.Common.{◌≡◌, ◌∙◌, ◌++◌, List, ap, false, sym, subst}
+use Rattle.std.proofs.Common.{◌∙◌, ◌++◌, ap, sym, subst}
 use Rattle.command_text.specs.Putting.{PutsOut}
 use Rattle.pid_text.specs.PidText.{IsPidsText}
 use Rattle.pid_text.specs.Private.Telling.{slots_text}

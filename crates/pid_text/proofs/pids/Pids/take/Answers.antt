@@ -1,6 +1,6 @@
-use Rattle.std.proofs.Common.{◌≡◌, ◌∙◌, ◌<◌, ◌++◌, ◌∷◌, [], get_or, set, sym, subst}
+use Rattle.std.proofs.Common.{◌≡◌, ◌∙◌, ◌++◌, ◌∷◌, [], get_or, set, sym, subst}
 use Rattle.pid_text.specs.Private.Watching.{TakesIn}
-use Rattle.pid_text.specs.Watched.{AreWatched, PidsWatched}
+use Rattle.pid_text.specs.Watched.{AreWatched}
 use Rattle.pid_text.proofs.PidsLaws.{packet_watched, taken_where}
 use Rattle.pid_text.proofs.pids.Pids.take.Goals as goal
 

@@ -1,6 +1,5 @@
-use Rattle.std.proofs.Common.{◌∙◌, ◌++◌, [], ap, append-nil}
+use Rattle.std.proofs.Common.{◌∙◌, [], append-nil}
 use Rattle.command_text.proofs.PutLaws.{PutsOut-nothing}
-use Rattle.packet_walk.specs.Told.{TellsOne}
 use Rattle.pid_text.proofs.pids.PidsPacketTeller.take_packet.Goals as goal
 
 pub returns-clause-told : goal.returns-clause-told

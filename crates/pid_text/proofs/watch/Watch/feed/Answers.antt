@@ -1,6 +1,6 @@
-use Rattle.std.proofs.Common.{◌≡◌, ◌∙◌, None, Some, ap, sym}
+use Rattle.std.proofs.Common.{◌∙◌, None, Some, ap, sym}
 use Rattle.std.specs.Option.{option_copied}
-use Rattle.pid_text.proofs.WatchLaws.{fed_on, fed_past}
+use Rattle.pid_text.proofs.WatchLaws.{fed_on}
 use Rattle.pid_text.proofs.watch.Watch.feed.Goals as goal
 
 pub returns-in-Some : goal.returns-in-Some
