@@ -20,7 +20,7 @@ use Rattle.receiver.specs.Asking.{AllTaken, Asking, HasNext, IsNext, IsSame, Sta
 use Rattle.sub_base.specs.Endpoints.{Received}
 use Rattle.sub_base.specs.declared.profile.Profile.{Profile}
 use Rattle.packet_walk.specs.Told.{TellsOne}
-use Rattle.dump_text.specs.DumpText.{IsDumpText, settled_ticks, shown_text, told_ticks}
+use Rattle.dump_text.specs.DumpText.{IsDumpText, settled_ticks, shown_text}
 use Rattle.dump_text.specs.Dumping.{AreBefore, AreFrom, Dumping, DumpsOn, HasDumped, IsSameDump, IsSettled, IsDumpTold, IsToldOf, PutsBetween, Settles, ticks_between}
 use Rattle.dump_text.proofs.TextLaws.{before_end, text_joined}
 use Rattle.dump_text.proofs.ToldLaws.{told_kept, told_same}

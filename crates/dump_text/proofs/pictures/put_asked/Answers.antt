@@ -1,5 +1,5 @@
 -- The text of what a receiver shows at a tick, drawn for it.
-use Rattle.std.proofs.Common.{◌≡◌, ◌≤◌, ℕ, List, subst, sym}
+use Rattle.std.proofs.Common.{◌≤◌, subst, sym}
 use Rattle.std.specs.Prelude.{unwrap_or}
 use Rattle.command_text.specs.Putting.{PutsOut}
 use Rattle.decoder_model.specs.Kept.{last_time}
