@@ -4,7 +4,7 @@ use Rattle.stream_syntax.specs.declared.transport.Event.TheVariants as event
 use Rattle.stream_syntax.specs.TransportPackets.{packet_fault, pid_of, has_error_flag, has_payload, has_start_flag, counter_of, payload_of}
 use Rattle.stream_syntax.specs.Units.{succession, part_after, event_after, unit_after, is_payload, last_counter, hand_after, event_at, unit_at}
 use Rattle.ts_packets.specs.Demuxing.{Demuxing, HasDemuxed, DemuxesOn, hand_of, next_hand, lent_bytes}
-use Rattle.ts_packets.specs.Private.Kinds.{IsPayloadOf}
+use Rattle.ts_packets.specs.Kinds.{IsPayloadOf}
 use Rattle.ts_packets.specs.Private.Steps.{Answers, StepsOn}
 use Rattle.ts_packets.proofs.UnitLemmas.{counter_push, hand_push}
 use Rattle.ts_packets.specs.declared.demux.Step.{Step}

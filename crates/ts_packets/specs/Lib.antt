@@ -2,6 +2,7 @@ pub use Rattle.stream_syntax.specs.Cutting
 pub use Rattle.stream_syntax.specs.BitFields
 pub use Rattle.stream_syntax.specs.TransportPackets
 pub use Rattle.stream_syntax.specs.Units
+pub mod Kinds
 pub mod Demuxing
 pub mod Fates
 pub mod Brought

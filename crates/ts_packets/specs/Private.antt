@@ -1,5 +1,4 @@
 -- What functions of this crate do inside: no other crate cites these.
 pub mod Numbering
 pub mod Feeding
-pub mod Kinds
 pub mod Steps

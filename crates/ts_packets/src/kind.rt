@@ -1,13 +1,14 @@
 ghost use Rattle.std.specs.Prelude.{◌≡◌, ℕ, ◌<◌, ◌≤◌, ◌==◌, ◌↔◌, false, length, drop, IsTrue, MatchResult, None, Some};
 ghost use Rattle.stream_syntax.specs.TransportPackets.{packet_fault, payload_of, pid_of, counter_of, has_start_flag};
 ghost use Rattle.stream_syntax.specs.declared.wire.TheConstants.{PAYLOAD_LENGTH};
-ghost use Rattle.ts_packets.specs.Private.Kinds.{IsKind};
+ghost use Rattle.ts_packets.specs.Kinds.{IsKind};
 
 use crate::packetiser::HEAD_LENGTH;
 use byteorder::{BigEndian, ByteOrder};
 use stream_syntax::{PacketFault, SYNC_BYTE};
 
 /// What a packet is for the units of a PID.
+#[derive(Clone, Copy)]
 pub enum Kind<'a> {
     /// It has another PID.
     Other,

@@ -5,7 +5,7 @@
 // Packets out of a unit.
 mod packetiser;
 
-// Units and losses out of packets, and what a packet brings to a unit.
+// What a packet is, units and losses out of packets, and what a packet brings to a unit.
 mod brought;
 mod demux;
 mod kind;
@@ -15,7 +15,7 @@ mod laws;
 
 pub use brought::Brought;
 pub use demux::{Demux, Fed};
-pub use kind::is_of_pid;
+pub use kind::{Kind, Payload, is_of_pid, kind_of};
 pub use laws::every_cutting_gives_its_unit;
 pub use packetiser::{Packetiser, null_packet};
 pub use stream_syntax::{Event, PacketFault};
