@@ -65,8 +65,9 @@ fn append_row_of(depth: Depth, codes: &[u8], out: &mut Vec<u8>) -> Result<(), No
     let mut pending = Pending::none();
     let mut from = 0;
     let mut at = 0;
+    // Codes of 2 bits have a table of runs, so that the search for their ends is most of the work.
     // The last pixel of a block is compared with the one behind it, so that up to 64 are left.
-    while codes.len() - at > 64 {
+    while depth == Depth::Two && codes.len() - at > 64 {
         from = append_ended(depth, codes, from, at, &mut pending, out)?;
         at += 64;
     }

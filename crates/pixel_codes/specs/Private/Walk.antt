@@ -1,11 +1,9 @@
 -- The runs that a walk over a block still gives, by the place at which it stands.
-use Rattle.std.specs.Prelude.{ℕ, zero, suc, ◌+◌, ◌*◌, ◌/◌, ◌%◌, ◌==◌, if◌then◌else◌, nat_lt, List, [], ◌∷◌, ◌++◌, length, take, drop, slice_index, Option, Some, None}
+use Rattle.std.specs.Prelude.{ℕ, zero, suc, ◌+◌, ◌*◌, ◌/◌, ◌%◌, ◌==◌, if◌then◌else◌, nat_lt, List, [], ◌∷◌, ◌++◌, length, drop, slice_index, Option, Some, None}
 use Rattle.sub_base.specs.declared.depth.Depth.{Depth}
 use Rattle.sub_base.specs.declared.depth.Depth.TheVariants.{Two, Four, Eight}
 use Rattle.stream_syntax.specs.PixelCodes.{bits_of}
 use Rattle.stream_syntax.specs.PixelBlocks.{table_size}
-use Rattle.stream_syntax.specs.declared.map_table.MapTable.{MapTable}
-use Rattle.stream_syntax.specs.declared.map_table.MapTable.TheVariants.{TwoToFour, TwoToEight, FourToEight}
 use Rattle.stream_syntax.specs.declared.pixel_run.Run.{Run}
 pub use Rattle.pixel_codes.specs.Maps.{Maps, default_maps, with_table}
 use Rattle.pixel_codes.specs.declared.part.Head.{Head}

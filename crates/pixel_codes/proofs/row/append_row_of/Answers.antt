@@ -8,8 +8,8 @@ use Rattle.pixel_codes.proofs.Rows.{whole_string}
 use Rattle.pixel_codes.proofs.RunEnds.{begins_at}
 use Rattle.pixel_codes.proofs.row.append_row_of.Goals as goal
 
-pub loop-at-init : goal.loop-at-init
-loop-at-init c = record {
+pub loop-depth-init : goal.loop-depth-init
+loop-depth-init c = record {
   run = begins_at c.args.codes.now 0 (omega arith);
   text =
       ap (λ (t : List ℕ). t ++ text_from c.args.depth c.args.codes.now 0)
@@ -18,9 +18,9 @@ loop-at-init c = record {
   extends = extends_none c.args.out.now.items;
 }
 
-pub loop-at-preserved : goal.loop-at-preserved
-loop-at-preserved c =
-    let l = c.loop-at in
+pub loop-depth-preserved : goal.loop-depth-preserved
+loop-depth-preserved c =
+    let l = c.loop-depth in
     record {
       run = c.in_ok-from.ensures.run;
       text = c.in_ok-from.ensures.text ∙ l.invariant.text;
@@ -31,7 +31,7 @@ loop-at-preserved c =
 
 pub returns-clause-text : goal.returns-clause-text
 returns-clause-text c =
-    let l = c.loop-at in
+    let l = c.loop-depth in
     let row = c.args.codes.now in
     let read = c.in_ok-append_rest.ensures.text ∙ l.invariant.text in
     on_ok_weaker c.finish.result
