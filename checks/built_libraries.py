@@ -54,9 +54,9 @@ def kept_of(kept, crates):
     return keys, lacking
 
 
-def bring(names, is_whole):
-    """Puts what is kept of the crates of these names, and of those below them, into this copy; of all where no name is given. Nothing is touched where all
-    of it is wanted and some is not kept. Answers how many crates these are, and the names of those of which nothing is kept."""
+def bring(names):
+    """Puts what is kept of the crates of these names, and of those below them, into this copy; of all where no name is given. Answers how many crates
+    these are, and the names of those of which nothing is kept."""
     sys.dont_write_bytecode = True
     sys.path.insert(0, str(KIT))
     os.chdir(TOP)
@@ -69,7 +69,7 @@ def bring(names, is_whole):
         return len(crates), [it.name for it in crates]
     kept = rt.Kept(crates)
     keys, lacking = kept_of(kept, crates)
-    for crate, key in keys if not (is_whole and lacking) else []:
+    for crate, key in keys:
         library = f"{crate.folder}/out/rlib"
         shutil.rmtree(library, ignore_errors=True)
         if not kept.give(crate, False, key):
@@ -79,16 +79,17 @@ def bring(names, is_whole):
     return len(crates), lacking
 
 
-def is_kept(program):
-    """Takes a program from what a run of `rt ci` on this machine has kept of these very files; false where it has kept none, or with another kit."""
+def takes_kept(program):
+    """Takes a program, and the crates that it stands on, from what runs of `rt ci` on this machine have kept of these very files. Answers whether all of it
+    was there: else the crates that were not are still to be proved, which are all of them where the kit keeps nothing, or in another way."""
     try:
-        return not bring([program], is_whole=True)[1]
+        return not bring([program])[1]
     except (OSError, AttributeError, TypeError, KeyError, ValueError, ImportError, SystemExit):
         return False
 
 
 def main():
-    count, lacking = bring([], is_whole=False)
+    count, lacking = bring([])
     print(f"{count - len(lacking)} of {count} crates are there" + (f"; not kept: {' '.join(lacking)}" if lacking else ""))
 
 

@@ -7,7 +7,7 @@ Crates that do not stand on each other are proved side by side, each by a worker
 `rt` in one copy wait for each other. What a worker has proved is copied to the others as they need it. Of the crates that could be next
 the one on the longest chain is taken first, and processors for which no crate is left to begin share the next one. A line on standard
 error tells of each crate as it is proved. Exit status 1, with what `rt` said, where a crate is refused. Where `rt ci` has proved these very files
-on this machine, the program that it made is taken.
+on this machine, the program that it made is taken, and where it has proved some of them, the others alone are proved.
 """
 
 import os
@@ -25,7 +25,7 @@ TOP = pathlib.Path(__file__).resolve().parent.parent
 SOURCES = ("src", "specs", "proofs")
 # What the proof of a large crate takes of memory, in bytes.
 ROOM = 3 * 2**30
-FIRST_CALL = "some 25 minutes on four processors"
+FIRST_CALL = "25 to 40 minutes on four processors"
 
 
 def tell(line):
@@ -218,7 +218,7 @@ def main(program):
     libraries = libraries_of()
     made = TOP / "crates" / program / "out" / "made"
     begun = time.time()
-    if built_libraries.is_kept(program):
+    if built_libraries.takes_kept(program):
         tell(f"{program}: a run of `rt ci` on this machine has proved and made it")
         return note(made, begun)
     changed = changed_of(crates_of(program, libraries)[:-1], libraries)
