@@ -11,7 +11,8 @@ use sub_base::Depth;
 
 // `code_strings` reads a code by bits, which may lie in two bytes. Here places count fields, each
 // as wide as a code of the depth, which is faster: a field lies in one byte, and costs a load and a
-// shift.
+// shift. The last three forms are inlined as the compiler likes: where all had to be, the loop over
+// codes would grow so large that the kit takes no copy of it for each pair of depths.
 /// The code at field `place` of a string of a depth, and the place after it; none where the bytes
 /// end before.
 #[inline(always)]
@@ -77,7 +78,7 @@ fn two_bit_far_token(bytes: &[u8], place: usize) -> Option<(Token, usize)>
 }
 
 /// The length and the code of a middle run of 2 bit codes.
-#[inline(always)]
+#[inline]
 #[tactic(auto, unfolding(crate::specs::Private::Reading::two_middle_at))]
 fn two_bit_middle_token(bytes: &[u8], place: usize) -> Option<(Token, usize)>
     requires bytes { length bytes.now < 2 ^ 32 }
@@ -93,7 +94,7 @@ fn two_bit_middle_token(bytes: &[u8], place: usize) -> Option<(Token, usize)>
 }
 
 /// The length and the code of a long run of 2 bit codes.
-#[inline(always)]
+#[inline]
 #[tactic(auto, unfolding(crate::specs::Private::Reading::two_long_at))]
 fn two_bit_long_token(bytes: &[u8], place: usize) -> Option<(Token, usize)>
     requires bytes { length bytes.now < 2 ^ 32 }
@@ -134,7 +135,7 @@ fn four_bit_token(bytes: &[u8], place: usize) -> Option<(Token, usize)>
 }
 
 /// The rest of a 4 bit code behind four bits 0 and a bit 1, whose next three bits are `form`.
-#[inline(always)]
+#[inline]
 #[tactic(auto, unfolding(crate::specs::Private::Reading::four_far_at))]
 fn four_bit_far_token(bytes: &[u8], place: usize, form: u8) -> Option<(Token, usize)>
     requires bytes { length bytes.now < 2 ^ 32 }
