@@ -123,7 +123,10 @@ class Run:
             return None
 
     def share_of(self, crate, idle, ready):
-        """How many of the idle processors a crate gets: two or more where all others wait for it, or none is there for them."""
+        """How many processors a crate gets: all where all that are left wait for it, since those that others work with now will be idle; else
+        its part of the idle ones, and two where it is on the longest chain."""
+        if all(crate in crates_below(other, self.libraries) for other in self.left):
+            return min(4, len(os.sched_getaffinity(0)))
         longest = max(self.lengths[other] for other in (*self.left, *self.taken, crate))
         fair = max(1, min(4, idle // ready))
         return max(fair, min(2, idle)) if self.lengths[crate] >= longest else fair

@@ -1,3 +1,4 @@
+use crate::same::same;
 use dvbsub_cmd::{Status, top};
 use samples::first_run::{FIRST_UNIT, SECOND_UNIT};
 use samples::words_of;
@@ -114,10 +115,10 @@ fn sixty_letters_in_each_profile(rt: HostRuntime) -> Result<(), Fail> {
     ];
     for (line, first, last) in cases {
         let done = run(&rt, rt.alloc(), line, SIXTY_LETTERS, LETTER_FONT)?;
-        assert_eq!(rt; done.status, Status::Done { cut: 0 });
-        assert_eq!(rt; done.notes.written(), b"done\n".as_slice());
-        assert_eq!(rt; done.out.written().len(), 188 * (last + 1));
-        assert_eq!(rt; packets_of_256(done.out.written()), (first, last, 29));
+        same(&rt, done.status, Status::Done { cut: 0 });
+        same(&rt, done.notes.written(), b"done\n".as_slice());
+        same(&rt, done.out.written().len(), 188 * (last + 1));
+        same(&rt, packets_of_256(done.out.written()), (first, last, 29));
     }
     Ok(())
 }
@@ -144,9 +145,9 @@ pub(crate) const COMPILE: &str = "compile sd 256 1 script.csv none out.ts";
 #[test]
 fn epochs_follow_each_other(rt: HostRuntime) -> Result<(), Fail> {
     let done = run(&rt, rt.alloc(), COMPILE, TWO_EPOCHS, "")?;
-    assert_eq!(rt; done.status, Status::Done { cut: 0 });
+    same(&rt, done.status, Status::Done { cut: 0 });
     let stream = done.out.written();
-    assert_eq!(rt; stream.len(), 4 * 188);
+    same(&rt, stream.len(), 4 * 188);
     assert!(rt; ends_with(stream, 0, &FIRST_UNIT, [0x21, 0x00, 0x05, 0xBF, 0x21]));
     assert!(rt; ends_with(stream, 1, &SECOND_UNIT, [0x21, 0x00, 0x0B, 0x7E, 0x41]));
     let (mut third, mut fourth) = (FIRST_UNIT, SECOND_UNIT);
@@ -161,9 +162,9 @@ fn epochs_follow_each_other(rt: HostRuntime) -> Result<(), Fail> {
 #[test]
 fn long_cues_are_refreshed(rt: HostRuntime) -> Result<(), Fail> {
     let done = run(&rt, rt.alloc(), COMPILE, FORTY_SECONDS, "")?;
-    assert_eq!(rt; done.status, Status::Done { cut: 0 });
-    assert_eq!(rt; done.out.written().len(), 4_597 * 188);
-    assert_eq!(rt; packets_of_256(done.out.written()), (0, 4_596, 9));
+    same(&rt, done.status, Status::Done { cut: 0 });
+    same(&rt, done.out.written().len(), 4_597 * 188);
+    same(&rt, packets_of_256(done.out.written()), (0, 4_596, 9));
     Ok(())
 }
 
@@ -171,21 +172,22 @@ fn long_cues_are_refreshed(rt: HostRuntime) -> Result<(), Fail> {
 #[test]
 fn programmes_pass_33_bits(rt: HostRuntime) -> Result<(), Fail> {
     let done = run(&rt, rt.alloc(), COMPILE, BEHIND_THE_WRAP, "")?;
-    assert_eq!(rt; done.status, Status::Done { cut: 0 });
+    same(&rt, done.status, Status::Done { cut: 0 });
     let stream = done.out.written();
-    assert_eq!(rt; stream.len(), 2 * 188);
+    same(&rt, stream.len(), 2 * 188);
     assert!(rt; ends_with(stream, 0, &FIRST_UNIT, [0x21, 0x00, 0x01, 0x00, 0x01]));
     assert!(rt; ends_with(stream, 1, &SECOND_UNIT, [0x21, 0x00, 0x05, 0xBF, 0x21]));
     let line = "expect script.csv none out.txt 8589934591 8589934592 8590024592";
     let shown = run(&rt, rt.alloc(), line, BEHIND_THE_WRAP, "")?;
-    assert_eq!(rt;
+    same(
+        &rt,
         shown.out.written(),
         b"picture 8589934591 clear\n\
           picture 8589934592 4 2\n\
           1*51F05AC0 3*912236C0\n\
           4*D29210C0\n\
           picture 8590024592 clear\n"
-            .as_slice()
+            .as_slice(),
     );
     Ok(())
 }
@@ -205,21 +207,23 @@ pub(crate) const SEE_THROUGH: &str = "origin,0\n\
 fn authored_pictures(rt: HostRuntime) -> Result<(), Fail> {
     let line = "expect script.csv none out.txt 90000 135000 270000";
     let shown = run(&rt, rt.alloc(), line, SEE_THROUGH, "")?;
-    assert_eq!(rt; shown.status, Status::Done { cut: 0 });
-    assert_eq!(rt;
+    same(&rt, shown.status, Status::Done { cut: 0 });
+    same(
+        &rt,
         shown.out.written(),
         b"picture 90000 4 1\n\
           4*91223600\n\
           picture 135000 4 1\n\
           2*91223600 1*D2921000 1*296EF000\n\
           picture 270000 clear\n"
-            .as_slice()
+            .as_slice(),
     );
     let line = "expect script.csv none out.txt 90000 180000";
     let shown = run(&rt, rt.alloc(), line, TWO_EPOCHS, "")?;
-    assert_eq!(rt;
+    same(
+        &rt,
         shown.out.written(),
-        b"picture 90000 4 2\n1*51F05AC0 3*912236C0\n4*D29210C0\npicture 180000 clear\n".as_slice()
+        b"picture 90000 4 2\n1*51F05AC0 3*912236C0\n4*D29210C0\npicture 180000 clear\n".as_slice(),
     );
     Ok(())
 }
@@ -253,8 +257,9 @@ const TEXTS: &str = "origin,0\n\
 fn authored_texts(rt: HostRuntime) -> Result<(), Fail> {
     let line = "expect script.csv font.bdf out.txt 90000 180000 270000";
     let shown = run(&rt, rt.alloc(), line, TEXTS, SMALL_FONT)?;
-    assert_eq!(rt; shown.status, Status::Done { cut: 0 });
-    assert_eq!(rt;
+    same(&rt, shown.status, Status::Done { cut: 0 });
+    same(
+        &rt,
         shown.out.written(),
         b"picture 90000 4 2\n\
           1*912236C0 1*D29210C0 1*912236C0 1*D29210C0\n\
@@ -263,7 +268,7 @@ fn authored_texts(rt: HostRuntime) -> Result<(), Fail> {
           picture 270000 4 2\n\
           1*D29210C0 1*912236C0 1*D29210C0 1*912236C0\n\
           4*D29210C0\n"
-            .as_slice()
+            .as_slice(),
     );
     Ok(())
 }
@@ -310,11 +315,12 @@ fn mixed_scripts_in_each_profile(rt: HostRuntime) -> Result<(), Fail> {
             let line = format!(in alloc; "compile {profile} 256 1 script.csv {font} out.ts")?;
             let script = mixed_script(alloc, font != "none")?;
             let done = run(&rt, alloc, &line, &script, text)?;
-            assert_eq!(rt; done.status, Status::Done { cut: 0 });
-            assert_eq!(rt; done.notes.written(), b"done\n".as_slice());
-            assert_eq!(rt;
+            same(&rt, done.status, Status::Done { cut: 0 });
+            same(&rt, done.notes.written(), b"done\n".as_slice());
+            same(
+                &rt,
                 unit_starts(alloc, done.out.written())?.as_slice(),
-                slots.as_slice()
+                slots.as_slice(),
             );
         }
     }
@@ -351,9 +357,9 @@ fn plans_and_schedules_that_are_refused(rt: HostRuntime) -> Result<(), Fail> {
     ];
     for (script, note) in cases {
         let refused = run(&rt, rt.alloc(), COMPILE, script, "")?;
-        assert_eq!(rt; refused.notes.written(), note.as_bytes());
-        assert!(rt; refused.out.written().is_empty());
-        assert_eq!(rt; refused.status.code(), 3);
+        same(&rt, refused.notes.written(), note.as_bytes());
+        same(&rt, refused.out.written(), b"".as_slice());
+        same(&rt, refused.status.code(), 3);
     }
     Ok(())
 }
@@ -398,20 +404,22 @@ fn sets_of_several_packets(rt: HostRuntime) -> Result<(), Fail> {
     let line = "compile large 256 1 script.csv none out.ts";
     let script = script_of_large_pictures(alloc, 300, &[0, 200, 400])?;
     let sent = run(&rt, alloc, line, &script, "")?;
-    assert_eq!(rt; sent.status, Status::Done { cut: 0 });
-    assert_eq!(rt; sent.out.written().len(), 5_001 * 188);
-    assert_eq!(rt;
+    same(&rt, sent.status, Status::Done { cut: 0 });
+    same(&rt, sent.out.written().len(), 5_001 * 188);
+    same(
+        &rt,
         unit_starts(alloc, sent.out.written())?.as_slice(),
-        [556, 883, 1_210, 5_000].as_slice()
+        [556, 883, 1_210, 5_000].as_slice(),
     );
 
     let script = script_of_large_pictures(alloc, 328, &[0])?;
     let refused = run(&rt, alloc, line, &script, "")?;
-    assert_eq!(rt;
+    same(
+        &rt,
         refused.notes.written(),
-        b"schedule SegmentFull 4 65614\n".as_slice()
+        b"schedule SegmentFull 4 65614\n".as_slice(),
     );
-    assert!(rt; refused.out.written().is_empty());
-    assert_eq!(rt; refused.status.code(), 3);
+    same(&rt, refused.out.written(), b"".as_slice());
+    same(&rt, refused.status.code(), 3);
     Ok(())
 }

@@ -1,5 +1,6 @@
 //! What the sets of compiled scripts hold, read back out of the packets.
 use crate::compiled_scripts::{COMPILE, FORTY_SECONDS, SEE_THROUGH, run};
+use crate::same::same;
 use pes_packets::read_pes;
 use segments::{Segment, State, read_segment};
 use std::alloc::Global;
@@ -116,11 +117,12 @@ fn sets_of(alloc: Global, stream: &[u8], with_regions: bool) -> Result<String, F
 fn a_later_cue_is_sent_alone(rt: HostRuntime) -> Result<(), Fail> {
     let done = run(&rt, rt.alloc(), COMPILE, SEE_THROUGH, "")?;
     let sets = sets_of(rt.alloc(), done.out.written(), true)?;
-    assert_eq!(rt;
+    same(
+        &rt,
         sets.as_str(),
         "90000 mode change; region 0 version 0 fill 0\n\
          135000 normal; region 0 version 1 1\n\
-         270000 normal\n"
+         270000 normal\n",
     );
     Ok(())
 }
@@ -130,13 +132,14 @@ fn a_later_cue_is_sent_alone(rt: HostRuntime) -> Result<(), Fail> {
 fn cues_join_and_leave(rt: HostRuntime) -> Result<(), Fail> {
     let done = run(&rt, rt.alloc(), COMPILE, JOINED, "")?;
     let sets = sets_of(rt.alloc(), done.out.written(), true)?;
-    assert_eq!(rt;
+    same(
+        &rt,
         sets.as_str(),
         "90000 mode change; region 0 version 0 fill 0\n\
          180000 normal; region 0 version 1 1\n\
          270000 normal; region 0 version 2 2\n\
          360000 normal; region 0 version 3 fill 1 2\n\
-         450000 normal\n"
+         450000 normal\n",
     );
     Ok(())
 }
@@ -146,19 +149,21 @@ fn cues_join_and_leave(rt: HostRuntime) -> Result<(), Fail> {
 fn acquisition_points_of_two_regions(rt: HostRuntime) -> Result<(), Fail> {
     let done = run(&rt, rt.alloc(), COMPILE, PAUSED, "")?;
     let states = sets_of(rt.alloc(), done.out.written(), false)?;
-    assert_eq!(rt;
+    same(
+        &rt,
         states.as_str(),
         "90000 mode change\n\
          180000 normal\n\
          360000 acquisition\n\
          495000 normal\n\
          585000 acquisition\n\
-         675000 normal\n"
+         675000 normal\n",
     );
     let sets = sets_of(rt.alloc(), done.out.written(), true)?;
-    assert_eq!(rt;
+    same(
+        &rt,
         line_at(sets.as_str(), 3),
-        Some("495000 normal; region 0 version 1 fill 1")
+        Some("495000 normal; region 0 version 1 fill 1"),
     );
     Ok(())
 }
@@ -215,7 +220,7 @@ fn versions_go_round(rt: HostRuntime) -> Result<(), Fail> {
     }
     expected.push_str("1620000 normal\n")?;
     let sets = sets_of(alloc, done.out.written(), true)?;
-    assert_eq!(rt; sets.as_str(), expected.as_str());
+    same(&rt, sets.as_str(), expected.as_str());
     Ok(())
 }
 
@@ -225,7 +230,8 @@ fn versions_go_round(rt: HostRuntime) -> Result<(), Fail> {
 fn a_long_cue_is_sent_again(rt: HostRuntime) -> Result<(), Fail> {
     let done = run(&rt, rt.alloc(), COMPILE, FORTY_SECONDS, "")?;
     let states = sets_of(rt.alloc(), done.out.written(), false)?;
-    assert_eq!(rt;
+    same(
+        &rt,
         states.as_str(),
         "90000 mode change\n\
          540000 acquisition\n\
@@ -235,7 +241,7 @@ fn a_long_cue_is_sent_again(rt: HostRuntime) -> Result<(), Fail> {
          2340000 acquisition\n\
          2790000 acquisition\n\
          3240000 acquisition\n\
-         3690000 acquisition\n"
+         3690000 acquisition\n",
     );
     Ok(())
 }

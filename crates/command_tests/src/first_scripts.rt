@@ -1,4 +1,5 @@
 use crate::compiled_scripts::Outcome;
+use crate::same::same;
 use cue_list::{ScriptFault, ScriptKind};
 use dvbsub_cmd::{Status, Which, top};
 use samples::first_run::{COMPILE, FIRST_UNIT, SCRIPT, SECOND_UNIT};
@@ -80,44 +81,51 @@ fn run<R: Threads + Sync>(
 #[test]
 fn one_cue_becomes_two_packets(rt: HostRuntime) -> Result<(), Fail> {
     let done = run(&rt, rt.alloc(), COMPILE, SCRIPT)?;
-    assert_eq!(rt; done.status, Status::Done { cut: 0 });
-    assert_eq!(rt; done.notes.written(), b"done\n".as_slice());
+    same(&rt, done.status, Status::Done { cut: 0 });
+    same(&rt, done.notes.written(), b"done\n".as_slice());
     let packets = done.out.written();
-    assert_eq!(rt; packets.len(), 376);
-    assert_eq!(rt;
+    same(&rt, packets.len(), 376);
+    same(
+        &rt,
         &packets[..6],
-        [0x47, 0x41, 0x00, 0x30, 0x55, 0x00].as_slice()
+        [0x47, 0x41, 0x00, 0x30, 0x55, 0x00].as_slice(),
     );
     assert!(rt; packets[6..90].iter().all(|byte| *byte == 0xFF));
-    assert_eq!(rt; &packets[90..188], FIRST_UNIT.as_slice());
-    assert_eq!(rt;
+    same(&rt, &packets[90..188], FIRST_UNIT.as_slice());
+    same(
+        &rt,
         &packets[188..194],
-        [0x47, 0x41, 0x00, 0x31, 0x98, 0x00].as_slice()
+        [0x47, 0x41, 0x00, 0x31, 0x98, 0x00].as_slice(),
     );
     assert!(rt; packets[194..345].iter().all(|byte| *byte == 0xFF));
-    assert_eq!(rt; &packets[345..376], SECOND_UNIT.as_slice());
+    same(&rt, &packets[345..376], SECOND_UNIT.as_slice());
     Ok(())
 }
 
 #[test]
 fn a_set_done_a_tick_late_is_refused(rt: HostRuntime) -> Result<(), Fail> {
     let late = run(&rt, rt.alloc(), COMPILE, SCRIPT_AT_98)?;
-    assert_eq!(rt;
+    same(
+        &rt,
         late.status,
         Status::ScheduleRefused {
             row: 4,
             fault: ScheduleFault::Late {
                 set: 0,
                 done: 99,
-                pts: 98
-            }
-        }
+                pts: 98,
+            },
+        },
     );
-    assert_eq!(rt; late.notes.written(), b"schedule Late 4 99 98\n".as_slice());
-    assert!(rt; late.out.written().is_empty());
+    same(
+        &rt,
+        late.notes.written(),
+        b"schedule Late 4 99 98\n".as_slice(),
+    );
+    same(&rt, late.out.written(), b"".as_slice());
     let timely = run(&rt, rt.alloc(), COMPILE, SCRIPT_AT_99)?;
-    assert_eq!(rt; timely.status, Status::Done { cut: 0 });
-    assert_eq!(rt; timely.out.written().len(), 376);
+    same(&rt, timely.status, Status::Done { cut: 0 });
+    same(&rt, timely.out.written().len(), 376);
     Ok(())
 }
 
@@ -152,9 +160,9 @@ fn other_words_are_answered_with_the_usage(rt: HostRuntime) -> Result<(), Fail> 
     ];
     for line in lines {
         let refused = run(&rt, rt.alloc(), line, SCRIPT)?;
-        assert_eq!(rt; refused.status, Status::Usage);
-        assert_eq!(rt; refused.notes.written(), b"usage\n".as_slice());
-        assert!(rt; refused.out.written().is_empty());
+        same(&rt, refused.status, Status::Usage);
+        same(&rt, refused.notes.written(), b"usage\n".as_slice());
+        same(&rt, refused.out.written(), b"".as_slice());
     }
     Ok(())
 }
@@ -162,31 +170,36 @@ fn other_words_are_answered_with_the_usage(rt: HostRuntime) -> Result<(), Fail> 
 #[test]
 fn other_scripts_are_refused(rt: HostRuntime) -> Result<(), Fail> {
     let refused = run(&rt, rt.alloc(), COMPILE, SCRIPT_TOO_DEEP)?;
-    assert_eq!(rt;
+    same(
+        &rt,
         refused.status,
         Status::ScriptRefused(ScriptFault::Refused {
             row: 7,
-            kind: ScriptKind::CodeRange
-        })
+            kind: ScriptKind::CodeRange,
+        }),
     );
-    assert_eq!(rt; refused.notes.written(), b"script 7 CodeRange\n".as_slice());
-    assert!(rt; refused.out.written().is_empty());
+    same(
+        &rt,
+        refused.notes.written(),
+        b"script 7 CodeRange\n".as_slice(),
+    );
+    same(&rt, refused.out.written(), b"".as_slice());
     Ok(())
 }
 
 #[test]
 fn sources_and_sinks_that_fail_are_told(rt: HostRuntime) -> Result<(), Fail> {
     let unread = run_failing(&rt, rt.alloc(), COMPILE, [SCRIPT, ""], [2, 0, 0])?;
-    assert_eq!(rt; unread.status, Status::ReadFault(Which::First));
-    assert_eq!(rt; unread.notes.written(), b"read first\n".as_slice());
-    assert!(rt; unread.out.written().is_empty());
+    same(&rt, unread.status, Status::ReadFault(Which::First));
+    same(&rt, unread.notes.written(), b"read first\n".as_slice());
+    same(&rt, unread.out.written(), b"".as_slice());
     let unwritten = run_failing(&rt, rt.alloc(), COMPILE, [SCRIPT, ""], [0, 1, 0])?;
-    assert_eq!(rt; unwritten.status, Status::WriteFault(Which::Out));
-    assert_eq!(rt; unwritten.notes.written(), b"write out\n".as_slice());
-    assert!(rt; unwritten.out.written().is_empty());
+    same(&rt, unwritten.status, Status::WriteFault(Which::Out));
+    same(&rt, unwritten.notes.written(), b"write out\n".as_slice());
+    same(&rt, unwritten.out.written(), b"".as_slice());
     let untold = run_failing(&rt, rt.alloc(), COMPILE, [SCRIPT, ""], [0, 0, 1])?;
-    assert_eq!(rt; untold.status, Status::WriteFault(Which::Notes));
-    assert_eq!(rt; untold.out.written().len(), 376);
+    same(&rt, untold.status, Status::WriteFault(Which::Notes));
+    same(&rt, untold.out.written().len(), 376);
     Ok(())
 }
 
@@ -230,9 +243,9 @@ const EXPECT: &str = "expect script.csv font.bdf out.txt 90000 180000";
 #[test]
 fn a_cue_of_text_is_shown_in_its_font(rt: HostRuntime) -> Result<(), Fail> {
     let shown = run_failing(&rt, rt.alloc(), EXPECT, [SCRIPT_OF_TEXT, FONT], [0, 0, 0])?;
-    assert_eq!(rt; shown.status, Status::Done { cut: 0 });
-    assert_eq!(rt; shown.notes.written(), b"done\n".as_slice());
-    assert_eq!(rt; shown.out.written(), PICTURES_OF_TEXT.as_bytes());
+    same(&rt, shown.status, Status::Done { cut: 0 });
+    same(&rt, shown.notes.written(), b"done\n".as_slice());
+    same(&rt, shown.out.written(), PICTURES_OF_TEXT.as_bytes());
     Ok(())
 }
 
@@ -240,8 +253,12 @@ fn a_cue_of_text_is_shown_in_its_font(rt: HostRuntime) -> Result<(), Fail> {
 fn a_letter_that_a_font_has_not_is_refused(rt: HostRuntime) -> Result<(), Fail> {
     let line = "expect script.csv none out.txt 90000";
     let refused = run(&rt, rt.alloc(), line, SCRIPT_OF_TEXT)?;
-    assert_eq!(rt; refused.notes.written(), b"script 6 Glyph 65\n".as_slice());
-    assert!(rt; refused.out.written().is_empty());
+    same(
+        &rt,
+        refused.notes.written(),
+        b"script 6 Glyph 65\n".as_slice(),
+    );
+    same(&rt, refused.out.written(), b"".as_slice());
     Ok(())
 }
 
@@ -249,10 +266,11 @@ fn a_letter_that_a_font_has_not_is_refused(rt: HostRuntime) -> Result<(), Fail> 
 fn a_display_that_a_receiver_has_not_is_refused(rt: HostRuntime) -> Result<(), Fail> {
     let script = "origin,0\ndisplay,721,576\nrefresh,5\nepoch,90000\nregion,0,0,0,8,8,8,0\n";
     let refused = run(&rt, rt.alloc(), COMPILE, script)?;
-    assert_eq!(rt;
+    same(
+        &rt,
         refused.notes.written(),
-        b"plan DisplayTooLarge 2\n".as_slice()
+        b"plan DisplayTooLarge 2\n".as_slice(),
     );
-    assert!(rt; refused.out.written().is_empty());
+    same(&rt, refused.out.written(), b"".as_slice());
     Ok(())
 }

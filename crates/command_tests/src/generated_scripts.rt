@@ -1,4 +1,5 @@
 use crate::compiled_scripts::Outcome;
+use crate::same::same;
 use crate::shown_pictures::run_over;
 use dvbsub_cmd::{Status, Which};
 use std::alloc::Global;
@@ -22,10 +23,11 @@ fn run<R: Threads + Sync>(
 #[test]
 fn one_cue_is_generated(rt: HostRuntime) -> Result<(), Fail> {
     let done = run(&rt, rt.alloc(), "gen 1 sd entries.txt", 0)?;
-    assert_eq!(rt; done.status, Status::Done { cut: 0 });
-    assert_eq!(rt;
+    same(&rt, done.status, Status::Done { cut: 0 });
+    same(
+        &rt,
         done.out.written(),
-        b"sets 2\npackets 5\npeak 731\nentry 0 180000\nentry 1 none\nentry 3 none\n".as_slice()
+        b"sets 2\npackets 5\npeak 731\nentry 0 180000\nentry 1 none\nentry 3 none\n".as_slice(),
     );
     Ok(())
 }
@@ -33,8 +35,9 @@ fn one_cue_is_generated(rt: HostRuntime) -> Result<(), Fail> {
 #[test]
 fn five_hundred_cues_are_generated_alike(rt: HostRuntime) -> Result<(), Fail> {
     let done = run(&rt, rt.alloc(), "gen 500 hd entries.txt", 0)?;
-    assert_eq!(rt; done.status, Status::Done { cut: 0 });
-    assert_eq!(rt;
+    same(&rt, done.status, Status::Done { cut: 0 });
+    same(
+        &rt,
         done.out.written(),
         b"sets 1000\n\
           packets 124601\n\
@@ -42,18 +45,18 @@ fn five_hundred_cues_are_generated_alike(rt: HostRuntime) -> Result<(), Fail> {
           entry 0 180000\n\
           entry 41533 15480000\n\
           entry 83067 30420000\n"
-            .as_slice()
+            .as_slice(),
     );
     let again = run(&rt, rt.alloc(), "gen 500 hd entries.txt", 0)?;
-    assert_eq!(rt; again.status, Status::Done { cut: 0 });
-    assert_eq!(rt; again.out.written(), done.out.written());
+    same(&rt, again.status, Status::Done { cut: 0 });
+    same(&rt, again.out.written(), done.out.written());
     Ok(())
 }
 
 #[test]
 fn an_output_that_fails_gets_nothing_of_a_generated_script(rt: HostRuntime) -> Result<(), Fail> {
     let failed = run(&rt, rt.alloc(), "gen 1 sd entries.txt", 1)?;
-    assert_eq!(rt; failed.status, Status::WriteFault(Which::Out));
-    assert!(rt; failed.out.written().is_empty());
+    same(&rt, failed.status, Status::WriteFault(Which::Out));
+    same(&rt, failed.out.written(), b"".as_slice());
     Ok(())
 }

@@ -2,6 +2,10 @@
 //! here but tests; each expected value was worked out by hand.
 #![tactic(auto)]
 
+// A comparison as a call.
+#[cfg(test)]
+mod same;
+
 // Scripts and streams by the status that they end with: words, refusals, causes of failures.
 #[cfg(test)]
 mod first_scripts;

@@ -1,6 +1,7 @@
 ghost use Rattle.std.specs.Prelude.{◌≤◌};
 
 use crate::compiled_scripts::Outcome;
+use crate::same::same;
 use dvbsub_cmd::{Status, Which, top};
 use samples::first_run::{
     BOTH_LINES, ENCODER_HEAD, FIRST_HEAD, FIRST_LINES, FIRST_UNIT, LATER_HEAD, LIST, SECOND_HEAD,
@@ -114,9 +115,9 @@ fn are_listed<R: Threads + Sync + Abort>(
     for row in rows {
         for most in [7, 188, 100_000] {
             let listed = run(rt, alloc, row.stream, most, [0, 0, 0])?;
-            assert_eq!(rt; listed.status, row.status);
-            assert_eq!(rt; listed.notes.written(), row.note.as_bytes());
-            assert_eq!(rt; listed.out.written(), row.text.as_bytes());
+            same(rt, listed.status, row.status);
+            same(rt, listed.notes.written(), row.note.as_bytes());
+            same(rt, listed.out.written(), row.text.as_bytes());
         }
     }
     Ok(())
@@ -196,15 +197,15 @@ fn a_stream_that_fails_is_told(rt: HostRuntime) -> Result<(), Fail> {
     let second = packet_of(&SECOND_HEAD, &SECOND_UNIT);
     let stream = stream_of(alloc, first, second, &[])?;
     let unread = run(&rt, alloc, stream.as_slice(), 7, [40, 0, 0])?;
-    assert_eq!(rt; unread.status, Status::ReadFault(Which::First));
-    assert_eq!(rt; unread.notes.written(), b"read first\n".as_slice());
-    assert_eq!(rt; unread.out.written(), FIRST_LINES.as_bytes());
+    same(&rt, unread.status, Status::ReadFault(Which::First));
+    same(&rt, unread.notes.written(), b"read first\n".as_slice());
+    same(&rt, unread.out.written(), FIRST_LINES.as_bytes());
     let unwritten = run(&rt, alloc, stream.as_slice(), 7, [0, 1, 0])?;
-    assert_eq!(rt; unwritten.status, Status::WriteFault(Which::Out));
-    assert_eq!(rt; unwritten.notes.written(), b"write out\n".as_slice());
-    assert!(rt; unwritten.out.written().is_empty());
+    same(&rt, unwritten.status, Status::WriteFault(Which::Out));
+    same(&rt, unwritten.notes.written(), b"write out\n".as_slice());
+    same(&rt, unwritten.out.written(), b"".as_slice());
     let untold = run(&rt, alloc, stream.as_slice(), 7, [0, 0, 1])?;
-    assert_eq!(rt; untold.status, Status::WriteFault(Which::Notes));
-    assert_eq!(rt; untold.out.written(), BOTH_LINES.as_bytes());
+    same(&rt, untold.status, Status::WriteFault(Which::Notes));
+    same(&rt, untold.out.written(), BOTH_LINES.as_bytes());
     Ok(())
 }

@@ -3,6 +3,7 @@
 
 use crate::compiled_scripts::{COMPILE, run};
 use crate::compiled_sets::{seventeen_cues, start_of};
+use crate::same::same;
 use crate::shown_pictures::run_over;
 use std::alloc::Global;
 use std::process::Abort;
@@ -96,7 +97,7 @@ fn one_to_fourteen_packets_are_lost(rt: HostRuntime) -> Result<(), Fail> {
     let script = seventeen_cues(alloc)?;
     let compiled = run(&rt, alloc, COMPILE, script.as_str(), "")?;
     let packets = sent_packets(alloc, compiled.out.written())?;
-    assert_eq!(rt; packets.len(), 188 * SETS);
+    same(&rt, packets.len(), 188 * SETS);
     for first in 0..SETS {
         let lost = 1 + first * 5 % 14;
         are_shown_again(&rt, alloc, packets.as_slice(), first, first + lost)?;
@@ -120,6 +121,6 @@ fn nothing_is_lost(rt: HostRuntime) -> Result<(), Fail> {
         text.push_str(&picture)?;
     }
     let shown = run(&rt, alloc, line.as_str(), script.as_str(), "")?;
-    assert_eq!(rt; shown.out.written(), text.as_bytes());
+    same(&rt, shown.out.written(), text.as_bytes());
     Ok(())
 }

@@ -1,6 +1,7 @@
 ghost use Rattle.std.specs.Prelude.{◌≤◌};
 
 use crate::compiled_scripts::Outcome;
+use crate::same::same;
 use dvbsub_cmd::{Status, Which, top};
 use samples::first_run::{
     ENCODER_HEAD, FIRST_HEAD, FIRST_UNIT, LATER_HEAD, SECOND_HEAD, SECOND_UNIT, UNSYNCED_HEAD,
@@ -142,9 +143,9 @@ fn is_told<R: Threads + Sync + Abort>(
     requires { 1 ≤ most }
 {
     let told = run_over(rt, alloc, row.line, row.stream, most, [0, 0], &NoGate)?;
-    assert_eq!(rt; told.status, row.status);
-    assert_eq!(rt; told.notes.written(), row.note.as_bytes());
-    assert_eq!(rt; told.out.written(), row.text.as_bytes());
+    same(rt, told.status, row.status);
+    same(rt, told.notes.written(), row.note.as_bytes());
+    same(rt, told.out.written(), row.text.as_bytes());
     Ok(())
 }
 
@@ -284,9 +285,9 @@ fn a_read_that_fails_is_told(rt: HostRuntime) -> Result<(), Fail> {
     let alloc = rt.alloc();
     let stream = first_run(alloc)?;
     let unread = run_over(&rt, alloc, DUMP, stream.as_slice(), 188, [2, 0], &NoGate)?;
-    assert_eq!(rt; unread.status, Status::ReadFault(Which::First));
-    assert_eq!(rt; unread.notes.written(), b"read first\n".as_slice());
-    assert!(rt; unread.out.written().is_empty());
+    same(&rt, unread.status, Status::ReadFault(Which::First));
+    same(&rt, unread.notes.written(), b"read first\n".as_slice());
+    same(&rt, unread.out.written(), b"".as_slice());
     Ok(())
 }
 
@@ -295,9 +296,9 @@ fn a_write_that_fails_is_told(rt: HostRuntime) -> Result<(), Fail> {
     let alloc = rt.alloc();
     let stream = first_run(alloc)?;
     let unwritten = run_over(&rt, alloc, DUMP, stream.as_slice(), 188, [0, 1], &NoGate)?;
-    assert_eq!(rt; unwritten.status, Status::WriteFault(Which::Out));
-    assert_eq!(rt; unwritten.notes.written(), b"write out\n".as_slice());
-    assert!(rt; unwritten.out.written().is_empty());
+    same(&rt, unwritten.status, Status::WriteFault(Which::Out));
+    same(&rt, unwritten.notes.written(), b"write out\n".as_slice());
+    same(&rt, unwritten.out.written(), b"".as_slice());
     Ok(())
 }
 
@@ -417,10 +418,10 @@ fn two_bands_of_a_dump_meet(rt: HostRuntime) -> Result<(), Fail> {
     };
     let stream = packet_of(&ROWS_HEAD, &ROWS_UNIT);
     let told = run_over(&rt, rt.alloc(), FIVE_ROWS[1], &stream, 188, [0, 0], &gate)?;
-    assert_eq!(rt; told.status, Status::Done { cut: 0 });
-    assert_eq!(rt; told.out.written(), ROWS_PICTURE.as_bytes());
+    same(&rt, told.status, Status::Done { cut: 0 });
+    same(&rt, told.out.written(), ROWS_PICTURE.as_bytes());
     assert!(rt; gate.first.load(Ordering::SeqCst));
     assert!(rt; gate.second.load(Ordering::SeqCst));
-    assert_eq!(rt; gate.missed.load(Ordering::SeqCst), 0);
+    same(&rt, gate.missed.load(Ordering::SeqCst), 0);
     Ok(())
 }

@@ -1,3 +1,4 @@
+use crate::same::same;
 use crate::shown_pictures::{
     are_told, cut_with, done_with, four_sets, no_command, refused_with, run_over,
 };
@@ -143,13 +144,13 @@ fn a_check_that_fails_is_told(rt: HostRuntime) -> Result<(), Fail> {
     let stream = first_run(alloc)?;
     let stream = stream.as_slice();
     let unread = run_over(&rt, alloc, CHECK, stream, 7, [40, 0], &NoGate)?;
-    assert_eq!(rt; unread.status, Status::ReadFault(Which::First));
-    assert_eq!(rt; unread.notes.written(), b"read first\n".as_slice());
-    assert_eq!(rt; unread.out.written(), FIRST_SET.as_bytes());
+    same(&rt, unread.status, Status::ReadFault(Which::First));
+    same(&rt, unread.notes.written(), b"read first\n".as_slice());
+    same(&rt, unread.out.written(), FIRST_SET.as_bytes());
     let unwritten = run_over(&rt, alloc, CHECK, stream, 188, [0, 1], &NoGate)?;
-    assert_eq!(rt; unwritten.status, Status::WriteFault(Which::Out));
-    assert_eq!(rt; unwritten.notes.written(), b"write out\n".as_slice());
-    assert!(rt; unwritten.out.written().is_empty());
+    same(&rt, unwritten.status, Status::WriteFault(Which::Out));
+    same(&rt, unwritten.notes.written(), b"write out\n".as_slice());
+    same(&rt, unwritten.out.written(), b"".as_slice());
     Ok(())
 }
 

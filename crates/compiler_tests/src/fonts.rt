@@ -1,3 +1,4 @@
+use crate::same::same;
 use crate::texts::FONT;
 use bitmap_font::{Font, FontFault, FontKind, SetFault};
 use std::alloc::Global;
@@ -10,9 +11,10 @@ fn fault(alloc: Global, bytes: &[u8]) -> Option<FontFault> {
 }
 
 fn refused<R: Abort>(rt: &R, alloc: Global, bytes: &[u8], line: u64, kind: FontKind) {
-    assert_eq!(rt;
+    same(
+        rt,
         fault(alloc, bytes),
-        Some(FontFault::Refused { line, kind })
+        Some(FontFault::Refused { line, kind }),
     );
 }
 
@@ -20,40 +22,45 @@ fn refused<R: Abort>(rt: &R, alloc: Global, bytes: &[u8], line: u64, kind: FontK
 fn sets_two_lines_in_a_font_of_one_glyph(rt: HostRuntime) -> Result<(), Fail> {
     let font = Font::read(rt.alloc(), FONT)?;
     let picture = font.set("A\nAA", 1, 0, Depth::Four)?;
-    assert_eq!(rt; picture.width(), 6);
-    assert_eq!(rt; picture.height(), 8);
+    same(&rt, picture.width(), 6);
+    same(&rt, picture.height(), 8);
     let codes = [
         0, 1, 0, 0, 0, 0, 1, 1, 0, 0, 0, 0, 0, 1, 0, 0, 0, 0, 0, 0, 0, 0, 0, 0, //
         0, 1, 0, 0, 1, 0, 1, 1, 0, 1, 1, 0, 0, 1, 0, 0, 1, 0, 0, 0, 0, 0, 0, 0,
     ];
-    assert_eq!(rt; picture.codes(), codes.as_slice());
+    same(&rt, picture.codes(), codes.as_slice());
     Ok(())
 }
 
 #[test]
 fn refuses_texts_in_order(rt: HostRuntime) -> Result<(), Fail> {
     let font = Font::read(rt.alloc(), FONT)?;
-    assert_eq!(rt;
+    same(
+        &rt,
         font.set("AB", 1, 0, Depth::Four).err(),
-        Some(SetFault::MissingGlyph('B'))
+        Some(SetFault::MissingGlyph('B')),
     );
-    assert_eq!(rt;
+    same(
+        &rt,
         font.set("", 1, 0, Depth::Four).err(),
-        Some(SetFault::Empty)
+        Some(SetFault::Empty),
     );
-    assert_eq!(rt;
+    same(
+        &rt,
         font.set("\n\n", 1, 0, Depth::Four).err(),
-        Some(SetFault::Empty)
+        Some(SetFault::Empty),
     );
     let wide = "AAAAAAAAAAAAAAAAAAAAAAAAAAAAAAAAAAAAAAAA".repeat(rt.alloc(), 17)?;
-    assert_eq!(rt;
+    same(
+        &rt,
         font.set(&wide, 1, 0, Depth::Four).err(),
-        Some(SetFault::TooWide)
+        Some(SetFault::TooWide),
     );
     let none = Font::empty(rt.alloc());
-    assert_eq!(rt;
+    same(
+        &rt,
         none.set("A", 1, 0, Depth::Four).err(),
-        Some(SetFault::MissingGlyph('A'))
+        Some(SetFault::MissingGlyph('A')),
     );
     Ok(())
 }

@@ -1,5 +1,6 @@
 ghost use Rattle.std.specs.Prelude.{◌≤◌};
 
+use crate::same::same;
 use cue_list::{Cue, Region};
 use generated_script::generate;
 use std::alloc::Global;
@@ -139,11 +140,11 @@ const REGIONS: [Region; 2] = [
 /// The codes of a picture of 64 by 32 pixels in its corners: those of the first row, and then of
 /// the last.
 fn check_corners<R: Abort>(rt: &R, codes: &[u8], wanted: &[u8; 4]) {
-    assert_eq!(rt; codes.len(), 2_048);
+    same(&rt, codes.len(), 2_048);
     let above = (codes.get(0).copied(), codes.get(63).copied());
     let below = (codes.get(1_984).copied(), codes.get(2_047).copied());
-    assert_eq!(rt; above, (Some(wanted[0]), Some(wanted[1])));
-    assert_eq!(rt; below, (Some(wanted[2]), Some(wanted[3])));
+    same(&rt, above, (Some(wanted[0]), Some(wanted[1])));
+    same(&rt, below, (Some(wanted[2]), Some(wanted[3])));
 }
 
 /// The script of so many cues is as wanted.
@@ -157,25 +158,25 @@ fn check_script<R: Abort>(
     requires few { number ≤ 500 }
 {
     let script = generate(alloc, number)?;
-    assert_eq!(rt; (script.origin, script.refresh), (0, 450_000));
-    assert_eq!(rt; (script.width, script.height), (320, 180));
-    assert_eq!(rt; script.epochs.len(), wanted.epochs);
-    assert_eq!(rt; script.pictures.len(), wanted.pictures);
+    same(rt, (script.origin, script.refresh), (0, 450_000));
+    same(rt, (script.width, script.height), (320, 180));
+    same(rt, script.epochs.len(), wanted.epochs);
+    same(rt, script.pictures.len(), wanted.pictures);
     let Some(epoch) = script.epochs.as_slice().last() else {
         panic!(rt; "the script has an epoch");
     };
-    assert_eq!(rt; (epoch.start, epoch.row), (wanted.start, wanted.row));
-    assert_eq!(rt; epoch.regions.as_slice(), REGIONS.as_slice());
-    assert_eq!(rt; epoch.colours.len(), 0);
-    assert_eq!(rt; epoch.cues.len(), wanted.cues);
+    same(rt, (epoch.start, epoch.row), (wanted.start, wanted.row));
+    same(rt, epoch.regions.as_slice(), REGIONS.as_slice());
+    same(rt, epoch.colours.len(), 0);
+    same(rt, epoch.cues.len(), wanted.cues);
     let Some(cue) = epoch.cues.as_slice().last() else {
         panic!(rt; "the epoch has a cue");
     };
-    assert_eq!(rt; *cue, wanted.last);
+    same(rt, *cue, wanted.last);
     let Some(picture) = script.pictures.as_slice().get(cue.picture as usize) else {
         panic!(rt; "the picture is there");
     };
-    assert_eq!(rt; (picture.width(), picture.height()), (64, 32));
+    same(rt, (picture.width(), picture.height()), (64, 32));
     check_corners(rt, picture.codes(), &wanted.corners);
     Ok(())
 }

@@ -2,6 +2,10 @@
 //! of sets, and what is told of a refusal. There is no code here but tests.
 #![tactic(auto)]
 
+// A comparison as a call.
+#[cfg(test)]
+mod same;
+
 // Texts that several of them read.
 #[cfg(test)]
 mod texts;

@@ -1,6 +1,7 @@
 ghost use Rattle.std.specs.Prelude.{◌≤◌};
 ghost use Rattle.stream_syntax.specs.PixelBlocks.{IsNoDeeper};
 
+use crate::same::same;
 use indexed_picture::Indexed;
 use set_coder::{FieldLengths, write_fields};
 use std::alloc::Global;
@@ -29,16 +30,16 @@ fn blocks(
 #[test]
 fn one_row_has_an_empty_bottom_field(rt: HostRuntime) -> Result<(), Fail> {
     let (bytes, lengths) = blocks(rt.alloc(), 3, 1, &[1, 1, 0], Depth::Two)?;
-    assert_eq!(rt; bytes.as_slice(), b"\x10\x51\x00\xF0\xF0".as_slice());
-    assert_eq!(rt; lengths, FieldLengths { top: 4, bottom: 1 });
+    same(&rt, bytes.as_slice(), b"\x10\x51\x00\xF0\xF0".as_slice());
+    same(&rt, lengths, FieldLengths { top: 4, bottom: 1 });
     Ok(())
 }
 
 #[test]
 fn equal_fields_share_the_top_block(rt: HostRuntime) -> Result<(), Fail> {
     let (bytes, lengths) = blocks(rt.alloc(), 3, 2, &[1, 1, 0, 1, 1, 0], Depth::Two)?;
-    assert_eq!(rt; bytes.as_slice(), b"\x10\x51\x00\xF0".as_slice());
-    assert_eq!(rt; lengths, FieldLengths { top: 4, bottom: 0 });
+    same(&rt, bytes.as_slice(), b"\x10\x51\x00\xF0".as_slice());
+    same(&rt, lengths, FieldLengths { top: 4, bottom: 0 });
     Ok(())
 }
 
@@ -46,11 +47,12 @@ fn equal_fields_share_the_top_block(rt: HostRuntime) -> Result<(), Fail> {
 #[test]
 fn an_odd_height_has_a_bottom_block(rt: HostRuntime) -> Result<(), Fail> {
     let (bytes, lengths) = blocks(rt.alloc(), 1, 3, &[1, 1, 1], Depth::Two)?;
-    assert_eq!(rt;
+    same(
+        &rt,
         bytes.as_slice(),
-        b"\x10\x40\xF0\x10\x40\xF0\x10\x40\xF0".as_slice()
+        b"\x10\x40\xF0\x10\x40\xF0\x10\x40\xF0".as_slice(),
     );
-    assert_eq!(rt; lengths, FieldLengths { top: 6, bottom: 3 });
+    same(&rt, lengths, FieldLengths { top: 6, bottom: 3 });
     Ok(())
 }
 
@@ -58,7 +60,7 @@ fn an_odd_height_has_a_bottom_block(rt: HostRuntime) -> Result<(), Fail> {
 fn a_deeper_region_gets_the_identity_table(rt: HostRuntime) -> Result<(), Fail> {
     let (bytes, lengths) = blocks(rt.alloc(), 2, 2, &[1, 0, 0, 1], Depth::Four)?;
     let wanted = b"\x20\x01\x23\x10\x44\x00\xF0\x20\x01\x23\x10\x14\x00\xF0";
-    assert_eq!(rt; bytes.as_slice(), wanted.as_slice());
-    assert_eq!(rt; lengths, FieldLengths { top: 7, bottom: 7 });
+    same(&rt, bytes.as_slice(), wanted.as_slice());
+    same(&rt, lengths, FieldLengths { top: 7, bottom: 7 });
     Ok(())
 }

@@ -2,6 +2,7 @@ ghost use Rattle.std.specs.Prelude.{◌≡◌, ◌≤◌, IfOk};
 ghost use Rattle.std.specs.List.{concat};
 ghost use Rattle.sub_base.specs.Picture.{picture_of, top_field};
 
+use crate::same::same;
 use indexed_picture::{Indexed, PictureFault};
 use std::alloc::{AllocError, Global};
 use std::process::Abort;
@@ -32,16 +33,16 @@ fn top_codes(alloc: Global, picture: &Indexed) -> Result<Vec<u8>, AllocError>
 fn refuses_what_is_no_picture(rt: HostRuntime) -> Result<(), Fail> {
     let alloc = rt.alloc();
     let short = Indexed::from_codes(alloc, 2, 1, Depth::Two, [1].to_vec(alloc)?).err();
-    assert_eq!(rt; short, Some(PictureFault::WrongCount));
+    same(&rt, short, Some(PictureFault::WrongCount));
     let deep = Indexed::from_codes(alloc, 2, 2, Depth::Two, [1, 3, 4, 5].to_vec(alloc)?).err();
-    assert_eq!(rt; deep, Some(PictureFault::CodeOutside { place: 2 }));
+    same(&rt, deep, Some(PictureFault::CodeOutside { place: 2 }));
     Ok(())
 }
 
 #[test]
 fn takes_codes_that_are_right(rt: HostRuntime) -> Result<(), Fail> {
     let known = Indexed::of_codes(1, 1, Depth::Two, [3].to_vec(rt.alloc())?);
-    assert_eq!(rt; known.codes(), [3].as_slice());
+    same(&rt, known.codes(), [3].as_slice());
     Ok(())
 }
 
@@ -49,12 +50,12 @@ fn takes_codes_that_are_right(rt: HostRuntime) -> Result<(), Fail> {
 fn gives_the_rows_of_both_fields(rt: HostRuntime) -> Result<(), Fail> {
     let three = picture(rt.alloc(), 2, 3, &[0, 1, 2, 3, 1, 1])?;
     let top = top_codes(rt.alloc(), &three)?;
-    assert_eq!(rt; top.as_slice(), [0, 1, 1, 1].as_slice());
+    same(&rt, top.as_slice(), [0, 1, 1, 1].as_slice());
     let mut bottom = Vec::new(rt.alloc());
     for row in three.bottom_rows() {
         bottom.extend_from_slice(row)?;
     }
-    assert_eq!(rt; bottom.as_slice(), [2, 3].as_slice());
+    same(&rt, bottom.as_slice(), [2, 3].as_slice());
     Ok(())
 }
 
@@ -69,9 +70,10 @@ fn compares_the_fields(rt: HostRuntime) -> Result<(), Fail> {
     ];
     for (width, height, codes, equal) in table {
         if width > 0 && height > 0 {
-            assert_eq!(rt;
+            same(
+                &rt,
                 picture(rt.alloc(), width, height, codes)?.fields_equal(),
-                equal
+                equal,
             );
         }
     }
@@ -81,13 +83,13 @@ fn compares_the_fields(rt: HostRuntime) -> Result<(), Fail> {
 #[test]
 fn paints_over_a_blank_picture(rt: HostRuntime) -> Result<(), Fail> {
     let mut below = Indexed::blank(rt.alloc(), 4, 3, Depth::Four)?;
-    assert_eq!(rt; below.codes(), [0; 12].as_slice());
+    same(&rt, below.codes(), [0; 12].as_slice());
     let over = picture(rt.alloc(), 2, 2, &[1, 2, 3, 1])?;
     below.paint(0, 0, &over, false);
     below.paint(2, 1, &over, true);
     let painted = [1, 2, 0, 0, 3, 1, 0, 2, 0, 0, 3, 0];
-    assert_eq!(rt; below.codes(), painted.as_slice());
+    same(&rt, below.codes(), painted.as_slice());
     below.paint(0, 0, &over, true);
-    assert_eq!(rt; below.codes(), painted.as_slice());
+    same(&rt, below.codes(), painted.as_slice());
     Ok(())
 }

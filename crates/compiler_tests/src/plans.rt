@@ -1,3 +1,4 @@
+use crate::same::same;
 use crate::wanted_plans::*;
 use bitmap_font::Font;
 use cue_list::Script;
@@ -24,40 +25,42 @@ fn plan_of<R: Abort>(rt: &R, alloc: Global, text: &str) -> Result<Plan, PlanFaul
 }
 
 fn check_regions<R: Abort>(rt: &R, regions: &[SentRegion], wanted: &[WantedRegion]) {
-    assert_eq!(rt; regions.len(), wanted.len());
+    same(rt, regions.len(), wanted.len());
     for (i, (id, version, fill, cues)) in wanted.iter().enumerate() {
         let Some(region) = regions.get(i) else {
             panic!(rt; "the region is sent");
         };
-        assert_eq!(rt;
+        same(
+            rt,
             (region.id, region.version, region.fill),
-            (*id, *version, *fill)
+            (*id, *version, *fill),
         );
-        assert_eq!(rt; region.cues.as_slice(), *cues);
+        same(rt, region.cues.as_slice(), *cues);
     }
 }
 
 fn check_cluts<R: Abort>(rt: &R, cluts: &[SentClut], wanted: &[WantedClut]) {
-    assert_eq!(rt; cluts.len(), wanted.len());
+    same(rt, cluts.len(), wanted.len());
     for (i, (number, version, rows)) in wanted.iter().enumerate() {
         let Some(clut) = cluts.get(i) else {
             panic!(rt; "the CLUT is sent");
         };
-        assert_eq!(rt; (clut.clut, clut.version), (*number, *version));
-        assert_eq!(rt; clut.rows.as_slice(), *rows);
+        same(rt, (clut.clut, clut.version), (*number, *version));
+        same(rt, clut.rows.as_slice(), *rows);
     }
 }
 
 fn check_set<R: Abort>(rt: &R, set: &PlannedSet, wanted: &Wanted) {
-    assert_eq!(rt; (set.pts, set.state), (wanted.pts, wanted.state));
-    assert_eq!(rt;
+    same(rt, (set.pts, set.state), (wanted.pts, wanted.state));
+    same(
+        rt,
         (set.row, set.page_version),
-        (wanted.row, wanted.page_version)
+        (wanted.row, wanted.page_version),
     );
-    assert_eq!(rt; set.shown.as_slice(), wanted.shown);
+    same(rt, set.shown.as_slice(), wanted.shown);
     check_regions(rt, set.regions.as_slice(), wanted.regions);
     check_cluts(rt, set.cluts.as_slice(), wanted.cluts);
-    assert_eq!(rt; set.cues.as_slice(), wanted.cues);
+    same(rt, set.cues.as_slice(), wanted.cues);
 }
 
 /// The script of a text has the plan of these sets.
@@ -67,7 +70,7 @@ fn check_plan<R: Abort>(rt: &R, alloc: Global, text: &str, wanted: &[Wanted]) {
         Err(fault) => panic!(rt; "the receiver holds all sets: {fault}"),
     };
     let sets = plan.sets.as_slice();
-    assert_eq!(rt; sets.len(), wanted.len());
+    same(rt, sets.len(), wanted.len());
     for (i, wanted) in wanted.iter().enumerate() {
         let Some(set) = sets.get(i) else {
             panic!(rt; "the set is planned");
@@ -100,7 +103,7 @@ fn a_cue_of_forty_seconds(rt: HostRuntime) -> Result<(), Fail> {
          place,90000,3690000,0,0,0,solid,a\n";
     let plan = plan_of(&rt, rt.alloc(), text)?;
     let sets = plan.sets.as_slice();
-    assert_eq!(rt; sets.len(), 9);
+    same(&rt, sets.len(), 9);
     for (i, set) in sets.iter().enumerate() {
         let shown = i < 8;
         let wanted = Wanted {
@@ -150,7 +153,7 @@ fn versions_wrap(rt: HostRuntime) -> Result<(), Fail> {
     let text = changing_script(alloc)?;
     let plan = plan_of(&rt, alloc, &text)?;
     let sets = plan.sets.as_slice();
-    assert_eq!(rt; sets.len(), 21);
+    same(&rt, sets.len(), 21);
     for (i, version) in [(0, 0), (1, 1), (15, 15), (16, 0), (17, 1), (19, 3)] {
         let Some(set) = sets.get(i) else {
             panic!(rt; "the set is planned");
@@ -158,18 +161,20 @@ fn versions_wrap(rt: HostRuntime) -> Result<(), Fail> {
         let Some(region) = set.regions.as_slice().first() else {
             panic!(rt; "the region is sent");
         };
-        assert_eq!(rt;
+        same(
+            &rt,
             (set.page_version, region.version, region.fill),
-            (version, version, true)
+            (version, version, true),
         );
-        assert_eq!(rt; region.cues.as_slice(), [i as u32].as_slice());
+        same(&rt, region.cues.as_slice(), [i as u32].as_slice());
     }
     let Some(last) = sets.last() else {
         panic!(rt; "the last cue ends");
     };
-    assert_eq!(rt;
+    same(
+        &rt,
         (last.page_version, last.regions.len(), last.shown.len()),
-        (4, 0, 0)
+        (4, 0, 0),
     );
     Ok(())
 }
@@ -180,12 +185,13 @@ fn versions_wrap(rt: HostRuntime) -> Result<(), Fail> {
 fn the_first_set_that_a_receiver_cannot_hold(rt: HostRuntime) -> Result<(), Fail> {
     let alloc = rt.alloc();
     let large = "origin,0\ndisplay,720,576\nrefresh,5\nepoch,90000\nregion,0,0,0,720,576,2,0\n";
-    assert_eq!(rt;
+    same(
+        &rt,
         plan_of(&rt, alloc, large).err(),
         Some(PlanFault::PixelFull {
             row: 4,
-            need: 103_680
-        })
+            need: 103_680,
+        }),
     );
     let mut text = String::from_str(
         alloc,
@@ -202,9 +208,10 @@ fn the_first_set_that_a_receiver_cannot_hold(rt: HostRuntime) -> Result<(), Fail
             }
         }
     }
-    assert_eq!(rt;
+    same(
+        &rt,
         plan_of(&rt, alloc, &text).err(),
-        Some(PlanFault::CompositionFull { row: 4, need: 555 })
+        Some(PlanFault::CompositionFull { row: 4, need: 555 }),
     );
     Ok(())
 }

@@ -1,3 +1,4 @@
+use crate::same::same;
 use crate::texts::{FONT, PICTURE_HEAD};
 use bitmap_font::FontKind;
 use cue_list::ScriptKind;
@@ -35,13 +36,13 @@ fn records_are_quoted(rt: HostRuntime) -> Result<(), Fail> {
     let told = script_refusal(rt.alloc(), script, font, 7, ScriptKind::CueOutside)?;
     let wanted = "record 7, cue,90000,180000,0,18,0,7,8,A: the picture of a text lies inside its \
                   region; it has 3 by 4 pixels, and region 0 has 2 by 20 from its place on";
-    assert!(rt; told.as_bytes() == wanted.as_bytes());
+    same(&rt, told.as_bytes(), wanted.as_bytes());
     let told = script_refusal(rt.alloc(), None, None, 7, ScriptKind::CueOutside)?;
     let wanted = "record 7 of the script: a picture lies inside its region";
-    assert!(rt; told.as_bytes() == wanted.as_bytes());
+    same(&rt, told.as_bytes(), wanted.as_bytes());
     let told = script_refusal(rt.alloc(), script, font, 8, ScriptKind::Order)?;
     let wanted = "record 8, behind the last one of the script: a script has an epoch";
-    assert!(rt; told.as_bytes() == wanted.as_bytes());
+    same(&rt, told.as_bytes(), wanted.as_bytes());
     Ok(())
 }
 
@@ -307,7 +308,7 @@ fn plans_are_told(rt: HostRuntime) -> Result<(), Fail> {
     ];
     for (fault, wanted) in cases {
         let told = plan_refusal(rt.alloc(), Some(PICTURE_HEAD.as_bytes()), &sd, fault)?;
-        assert!(rt; told.as_bytes() == wanted.as_bytes());
+        same(&rt, told.as_bytes(), wanted.as_bytes());
     }
     Ok(())
 }

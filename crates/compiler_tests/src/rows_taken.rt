@@ -1,3 +1,4 @@
+use crate::same::same;
 use bitmap_font::Font;
 use csv::ByteRecord;
 use cue_list::{OnlyRow, RecordFault, ScriptKind, ScriptReader, is_tick_row, only_row};
@@ -36,7 +37,7 @@ fn rows_are_tested_by_those_that_were_taken(rt: HostRuntime) -> Result<(), Fail>
         let Some(row) = row_of(alloc, text) else {
             panic!(&rt; "{text} is one record");
         };
-        assert_eq!(&rt; fault_of(alloc, &mut reader, &font, &row), *wanted);
+        same(&rt, fault_of(alloc, &mut reader, &font, &row), *wanted);
     }
     Ok(())
 }
@@ -66,7 +67,7 @@ fn a_row_that_is_taken_back_can_come_again(rt: HostRuntime) -> Result<(), Fail> 
             panic!(&rt; "{text} is right");
         };
         reader.go_back(before);
-        assert_eq!(&rt; fault_of(alloc, &mut reader, &font, &row), None);
+        same(&rt, fault_of(alloc, &mut reader, &font, &row), None);
     }
     Ok(())
 }
@@ -95,17 +96,17 @@ fn ticks_rise_behind_the_origin(rt: HostRuntime) -> Result<(), Fail> {
             Some(ScriptKind::Count) => Some(ScriptKind::Count),
             _ => Some(ScriptKind::Order),
         };
-        assert_eq!(&rt; reader.tick(&row, Some(100)).err(), first);
+        same(&rt, reader.tick(&row, Some(100)).err(), first);
     }
     let Some(origin) = row_of(alloc, "origin,7") else {
         panic!(&rt; "that is one record");
     };
-    assert_eq!(&rt; fault_of(alloc, &mut reader, &font, &origin), None);
+    same(&rt, fault_of(alloc, &mut reader, &font, &origin), None);
     for (text, wanted) in &TICKS {
         let Some(row) = row_of(alloc, text) else {
             panic!(&rt; "{text} is one record");
         };
-        assert_eq!(&rt; reader.tick(&row, Some(100)).err(), *wanted);
+        same(&rt, reader.tick(&row, Some(100)).err(), *wanted);
     }
     Ok(())
 }
@@ -119,7 +120,7 @@ fn a_text_has_one_record_or_another_number(rt: HostRuntime) -> Result<(), Fail> 
             Ok(OnlyRow::Many { count }) => count,
             Err(_) => panic!(&rt; "there is memory"),
         };
-        assert_eq!(&rt; count, *wanted);
+        same(&rt, count, *wanted);
     }
     Ok(())
 }

@@ -1,3 +1,4 @@
+use crate::same::same;
 use crate::texts::{FONT, PICTURE_HEAD};
 use bitmap_font::Font;
 use cue_list::{Epoch, Script, ScriptFault, ScriptKind};
@@ -325,12 +326,13 @@ fn wrong_scripts_are_refused_at_their_first_wrong_record(rt: HostRuntime) -> Res
         let mut text = String::from_str(alloc, head)?;
         text.push_str(more)?;
         match Script::read(alloc, text.as_bytes(), &font) {
-            Err(fault) => assert_eq!(&rt;
+            Err(fault) => same(
+                &rt,
                 fault,
                 ScriptFault::Refused {
                     row: *row,
-                    kind: *kind
-                }
+                    kind: *kind,
+                },
             ),
             Ok(_) => panic!(&rt; "the script {text} is wrong"),
         }
@@ -388,13 +390,14 @@ fn right_scripts_are_read(rt: HostRuntime) -> Result<(), Fail> {
         text.push_str(HEAD)?;
         text.push_str(more)?;
         match Script::read(alloc, text.as_bytes(), &font) {
-            Ok(script) => assert_eq!(&rt;
+            Ok(script) => same(
+                &rt,
                 (
                     script.epochs.len(),
                     script.pictures.len(),
-                    cue_count(script.epochs.as_slice())
+                    cue_count(script.epochs.as_slice()),
                 ),
-                (*epochs, *pictures, *cues)
+                (*epochs, *pictures, *cues),
             ),
             Err(fault) => panic!(&rt; "the script {text} is right: {fault}"),
         }
@@ -419,37 +422,41 @@ fn a_cue_shows_the_last_picture_of_a_name_before_it(rt: HostRuntime) -> Result<(
     let Ok(script) = Script::read(alloc, text, &font) else {
         panic!(&rt; "the script is right");
     };
-    assert_eq!(&rt;
+    same(
+        &rt,
         (script.origin, script.width, script.height, script.refresh),
-        (7, 40, 30, 450_000)
+        (7, 40, 30, 450_000),
     );
     let Some(epoch) = script.epochs.as_slice().first() else {
         panic!(&rt; "an epoch was started");
     };
-    assert_eq!(&rt; (epoch.start, epoch.row), (90_000, 4));
+    same(&rt, (epoch.start, epoch.row), (90_000, 4));
     let Some(cue) = epoch.cues.as_slice().first() else {
         panic!(&rt; "a cue was placed");
     };
-    assert_eq!(&rt;
+    same(
+        &rt,
         (cue.start, cue.end, cue.row, cue.region),
-        (90_000, 180_000, 8, 3)
+        (90_000, 180_000, 8, 3),
     );
-    assert_eq!(&rt;
+    same(
+        &rt,
         (cue.x, cue.y, cue.picture, cue.see_through),
-        (1, 2, 1, true)
+        (1, 2, 1, true),
     );
     let Some(row) = epoch.colours.as_slice().first() else {
         panic!(&rt; "a colour was set");
     };
-    assert_eq!(&rt;
+    same(
+        &rt,
         (row.tick, row.row, row.clut, row.entry),
-        (90_000, 10, 9, 1)
+        (90_000, 10, 9, 1),
     );
-    assert_eq!(&rt; row.colour, CLEAR);
+    same(&rt, row.colour, CLEAR);
     let Some(picture) = script.pictures.as_slice().get(1) else {
         panic!(&rt; "three pictures were named");
     };
-    assert_eq!(&rt; picture.codes(), [3, 15].as_slice());
+    same(&rt, picture.codes(), [3, 15].as_slice());
     Ok(())
 }
 
@@ -476,7 +483,7 @@ fn runs_spell_codes(rt: HostRuntime) -> Result<(), Fail> {
         let Some(picture) = script.pictures.as_slice().first() else {
             panic!(&rt; "a picture was named");
         };
-        assert_eq!(&rt; picture.codes(), *codes);
+        same(&rt, picture.codes(), *codes);
     }
     Ok(())
 }

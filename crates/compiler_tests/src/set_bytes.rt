@@ -4,6 +4,7 @@ ghost use Rattle.cue_list.specs.Sound.{IsSoundScript};
 ghost use Rattle.page_epoch.specs.Sendable.{IsSendableClut, IsSendableIn};
 ghost use Rattle.compiler_tests.specs.Private.Sample.{sample};
 
+use crate::same::same;
 use cue_list::{ColourRow, Cue, Epoch, Pictures, Region, Script};
 use indexed_picture::Indexed;
 use page_epoch::{PlannedSet, SentClut, SentRegion, State};
@@ -230,18 +231,18 @@ fn packet_of<R: Abort>(
     requires set { (set.now.epoch ≡ 0) × IsSendableIn sample set.now }
 {
     let load = load_of(alloc, script, set)?;
-    assert_eq!(rt; size_of(script, set), load.load.size);
+    same(rt, size_of(script, set), load.load.size);
     assert!(rt; load.longest <= UNIT_ROOM);
     let mut out = Vec::new(alloc);
     write_set(script, set, 1, &mut out)?;
     let kept = KeptBlocks::of_script(alloc, script)?;
     let again = kept.load_of(script, set)?;
-    assert_eq!(rt; again.load, load.load);
-    assert_eq!(rt; again.longest, load.longest);
-    assert_eq!(rt; again.units.as_slice(), load.units.as_slice());
+    same(rt, again.load, load.load);
+    same(rt, again.longest, load.longest);
+    same(rt, again.units.as_slice(), load.units.as_slice());
     let mut twice = Vec::new(alloc);
     kept.write_set(script, set, 1, &mut twice)?;
-    assert_eq!(rt; twice.as_slice(), out.as_slice());
+    same(rt, twice.as_slice(), out.as_slice());
     Ok(out)
 }
 
@@ -263,10 +264,11 @@ fn a_whole_page(rt: HostRuntime) -> Result<(), Fail> {
         size: 90,
         painted: 1,
     };
-    assert_eq!(rt; load(alloc, &script, &set)?, wanted);
-    assert_eq!(rt;
+    same(&rt, load(alloc, &script, &set)?, wanted);
+    same(
+        &rt,
         packet_of(&rt, alloc, &script, &set)?.as_slice(),
-        WHOLE_PAGE.as_slice()
+        WHOLE_PAGE.as_slice(),
     );
     Ok(())
 }
@@ -277,7 +279,7 @@ fn one_more_cue(rt: HostRuntime) -> Result<(), Fail> {
     let script = script(alloc)?;
     let set = set_with(alloc, 135_000, State::Normal, 1, 1, Vec::new(alloc))?;
     let packet = packet_of(&rt, alloc, &script, &set)?;
-    assert_eq!(rt; packet.as_slice(), ONE_MORE_CUE.as_slice());
+    same(&rt, packet.as_slice(), ONE_MORE_CUE.as_slice());
     Ok(())
 }
 
@@ -291,10 +293,11 @@ fn a_page_without_regions(rt: HostRuntime) -> Result<(), Fail> {
         size: 31,
         painted: 0,
     };
-    assert_eq!(rt; load(alloc, &script, &set)?, wanted);
-    assert_eq!(rt;
+    same(&rt, load(alloc, &script, &set)?, wanted);
+    same(
+        &rt,
         packet_of(&rt, alloc, &script, &set)?.as_slice(),
-        NO_REGION.as_slice()
+        NO_REGION.as_slice(),
     );
     Ok(())
 }
@@ -305,6 +308,6 @@ fn an_entry_of_a_clut(rt: HostRuntime) -> Result<(), Fail> {
     let script = script(alloc)?;
     let set = set_with(alloc, 90_000, State::Acquisition, 0, 0, one_clut(alloc)?)?;
     let packet = packet_of(&rt, alloc, &script, &set)?;
-    assert_eq!(rt; packet.as_slice(), WITH_CLUT.as_slice());
+    same(&rt, packet.as_slice(), WITH_CLUT.as_slice());
     Ok(())
 }

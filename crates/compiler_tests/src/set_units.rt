@@ -1,6 +1,7 @@
 ghost use Rattle.std.specs.Prelude.{◌≤◌};
 ghost use Rattle.page_epoch.specs.Sendable.{IsOfItsEpoch};
 
+use crate::same::same;
 use bitmap_font::Font;
 use cue_list::Script;
 use page_epoch::{Plan, PlannedSet};
@@ -79,9 +80,9 @@ fn check_set<R: Abort>(
     requires { IsOfItsEpoch script.now set.now }
 {
     let load = load_of(alloc, script, set)?;
-    assert_eq!(rt; load.units.as_slice(), units);
-    assert_eq!(rt; load.longest, longest);
-    assert_eq!(rt; size_of(script, set), load.load.size);
+    same(rt, load.units.as_slice(), units);
+    same(rt, load.longest, longest);
+    same(rt, size_of(script, set), load.load.size);
     if load.longest > UNIT_ROOM {
         return Ok(());
     }
@@ -90,15 +91,15 @@ fn check_set<R: Abort>(
     let kept = KeptBlocks::of_script(alloc, script)?;
     let mut again = Vec::new(alloc);
     kept.write_set(script, set, 1, &mut again)?;
-    assert_eq!(rt; again.as_slice(), out.as_slice());
+    same(rt, again.as_slice(), out.as_slice());
     let mut packets = out.as_slice();
     for length in units {
         assert!(rt; *length as usize <= packets.len());
         let (packet, behind) = packets.split_at(*length as usize);
-        assert_eq!(rt; read_pes(packet)?.pts, set.pts);
+        same(rt, read_pes(packet)?.pts, set.pts);
         packets = behind;
     }
-    assert_eq!(rt; packets.len(), 0);
+    same(rt, packets.len(), 0);
     Ok(())
 }
 
@@ -108,7 +109,7 @@ fn sets_of_several_units(rt: HostRuntime) -> Result<(), Fail> {
     let script = Script::read(alloc, script_text(alloc)?.as_bytes(), &Font::empty(alloc))?;
     let plan = Plan::make(alloc, &script, &Profile::of(ProfileName::Large))?;
     let sets = plan.sets.as_slice();
-    assert_eq!(rt; sets.len(), LOADS.len());
+    same(&rt, sets.len(), LOADS.len());
     for i in 0..sets.len() {
         let (units, longest) = LOADS[i];
         check_set(&rt, alloc, &script, &sets[i], units, longest)?;

@@ -1,4 +1,5 @@
 use crate::running::{reading, run, sound};
+use crate::same::same;
 use samples::first_run::{CHECK, DUMP, LIST, stream};
 use std::alloc::Global;
 use std::process::Abort;
@@ -112,15 +113,15 @@ fn is_answered<R: Threads + Sync + Abort>(
 ) -> Result<(), Fail> {
     let (code, note) = line_of(alloc, stream)?;
     let ended = run(rt, alloc, &reading(line, stream), sound(100_000))?;
-    assert_eq!(rt; ended.notes.written(), note.as_bytes());
-    assert_eq!(rt; ended.code, code);
+    same(rt, ended.notes.written(), note.as_bytes());
+    same(rt, ended.code, code);
     let text = match std::str::from_utf8(ended.out.written()) {
         Ok(text) => text,
         Err(_) => "no text",
     };
     assert!(rt; is_of_lines(text, looks.words));
     if code == 0 {
-        assert_eq!(rt; count_of(text, looks.last), looks.count);
+        same(rt, count_of(text, looks.last), looks.count);
     }
     Ok(())
 }

@@ -3,6 +3,7 @@
 use crate::failing::{each_font_read_fails, each_note_fails, each_read_fails, each_write_fails};
 use crate::refused_growth::ends_with_or_without_memory;
 use crate::running::{Asked, Edges, Wanted, done, ends_as, reading, run, sound};
+use crate::same::same;
 use samples::first_run::{SCRIPT, stream};
 use std::alloc::Global;
 use std::process::Abort;
@@ -40,8 +41,8 @@ fn whole_of<R: Threads + Sync + Abort>(
     size: usize,
 ) -> Result<MemSink, Fail> {
     let ended = run(rt, alloc, asked, sound(100_000))?;
-    assert_eq!(rt; ended.code, 0);
-    assert_eq!(rt; ended.out.written().len(), size);
+    same(rt, ended.code, 0);
+    same(rt, ended.out.written().len(), size);
     Ok(ended.out)
 }
 

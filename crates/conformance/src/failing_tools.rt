@@ -1,6 +1,7 @@
 use crate::failing::{each_note_fails, each_write_fails};
 use crate::refused_growth::ends_with_or_without_memory;
 use crate::running::{Asked, Edges, Wanted, done, ends_as, reading, run, sound};
+use crate::same::same;
 use samples::streams::packet_of;
 use std::alloc::Global;
 use std::process::Abort;
@@ -97,8 +98,8 @@ fn ends_within<R: Threads + Sync + Abort>(
     whole: &[u8],
 ) -> Result<(), Fail> {
     let ended = run(rt, alloc, asked, edges)?;
-    assert_eq!(rt; ended.notes.written(), note.as_bytes());
-    assert_eq!(rt; ended.code, 5);
+    same(rt, ended.notes.written(), note.as_bytes());
+    same(rt, ended.code, 5);
     assert!(rt; whole.starts_with(ended.out.written()));
     Ok(())
 }

@@ -1,5 +1,6 @@
 use crate::failing::{each_note_fails, each_write_fails};
 use crate::running::{Edges, Wanted, done, ends_as, reading, run, sound};
+use crate::same::same;
 use samples::first_run::*;
 use std::alloc::Global;
 use std::process::Abort;
@@ -73,7 +74,7 @@ fn each_write_of_many_packets_fails(rt: HostRuntime) -> Result<(), Fail> {
     let asked = reading(COMPILE, FORTY_SECONDS.as_bytes());
     let sent = run(&rt, alloc, &asked, sound(100_000))?;
     let packets = sent.out.written();
-    assert_eq!(rt; packets.len(), 4_597 * 188);
+    same(&rt, packets.len(), 4_597 * 188);
     each_write_fails(&rt, alloc, &asked, 65_424, packets)
 }
 

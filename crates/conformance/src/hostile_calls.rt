@@ -1,3 +1,4 @@
+use crate::same::same;
 use decoder_model::{SetEnd, SetFault};
 use page_core::Core;
 use receiver::Receiver;
@@ -52,8 +53,8 @@ fn one_unit_is_fed_a_thousand_times(rt: HostRuntime) -> Result<(), Fail> {
         sent.push(&ENCODER_UNIT)?;
     }
     let (ends, followed) = ends_of(&rt, rt.alloc(), sent.stream.as_slice())?;
-    assert_eq!(rt; ends.as_slice(), [SetEnd::Shown].as_slice());
-    assert_eq!(rt; followed, 1_000);
+    same(&rt, ends.as_slice(), [SetEnd::Shown].as_slice());
+    same(&rt, followed, 1_000);
     Ok(())
 }
 
@@ -69,18 +70,22 @@ fn a_set_of_too_many_bytes_is_broken(rt: HostRuntime) -> Result<(), Fail> {
     }
     let (ends, followed) = ends_of(&rt, rt.alloc(), sent.stream.as_slice())?;
     let broken = SetEnd::Broken(SetFault::SetTooLong { size: 24_584 });
-    assert_eq!(rt; ends.as_slice(), [broken].as_slice());
-    assert_eq!(rt; followed, 3_073);
+    same(&rt, ends.as_slice(), [broken].as_slice());
+    same(&rt, followed, 3_073);
     Ok(())
 }
 
 #[test]
 fn one_set_is_taken_a_thousand_times(rt: HostRuntime) -> Result<(), Fail> {
     let mut core = Core::make(rt.alloc(), &Profile::of(ProfileName::Sd), 1, 0)?;
-    assert_eq!(rt; core.take_set(90_000, encoder_segments()), SetEnd::Shown);
+    same(
+        &rt,
+        core.take_set(90_000, encoder_segments()),
+        SetEnd::Shown,
+    );
     for _ in 1..1_000 {
         let later = core.take_set(90_000, encoder_segments());
-        assert_eq!(rt; later, SetEnd::NotLater { last: 90_000 });
+        same(&rt, later, SetEnd::NotLater { last: 90_000 });
     }
     Ok(())
 }

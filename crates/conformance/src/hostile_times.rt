@@ -1,4 +1,5 @@
 use crate::running::{done, ends_as, reading, run, sound};
+use crate::same::same;
 use samples::first_run::{CHECK, COMPILE};
 use samples::streams::{ENCODER_UNIT, Sent, encoder_segments, put_unit};
 use std::alloc::Global;
@@ -120,7 +121,7 @@ fn versions_go_round(rt: HostRuntime) -> Result<(), Fail> {
     let script = cues_in_turn(alloc, 40)?;
     let asked_of = reading(COMPILE, script.as_bytes());
     let sent = run(&rt, alloc, &asked_of, sound(100_000))?;
-    assert_eq!(rt; sent.code, 0);
+    same(&rt, sent.code, 0);
     let line = dump_of(alloc, 40)?;
     let text = pictures_in_turn(alloc, 40)?;
     let shown = reading(line.as_str(), sent.out.written());

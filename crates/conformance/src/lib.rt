@@ -3,6 +3,10 @@
 //! from the rules of docs/FORMATS.md.
 #![tactic(auto)]
 
+// A comparison as a call.
+#[cfg(test)]
+mod same;
+
 // Carrying out a command over sources and sinks that fail where a test wants it.
 #[cfg(test)]
 mod running;

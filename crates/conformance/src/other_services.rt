@@ -1,4 +1,5 @@
 use crate::running::{Asked, done, ends_as, reading, run, sound};
+use crate::same::same;
 use samples::first_run::{FIRST_UNIT, PICTURES, SCRIPT, SECOND_UNIT};
 use samples::streams::packet_of;
 use std::alloc::Global;
@@ -171,7 +172,7 @@ fn many_pictures_are_sent_and_shown(rt: HostRuntime) -> Result<(), Fail> {
         script.as_bytes(),
     );
     let sent = run(&rt, alloc, &compile, sound(100_000))?;
-    assert_eq!(rt; sent.notes.written(), b"done\n".as_slice());
+    same(&rt, sent.notes.written(), b"done\n".as_slice());
     let asked = Asked {
         line: dump.as_str(),
         first: sent.out.written(),

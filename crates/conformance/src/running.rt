@@ -1,5 +1,6 @@
 ghost use Rattle.std.specs.Prelude.{◌≤◌};
 
+use crate::same::same;
 use dvbsub_cmd::top;
 use live_plan::live_top;
 use page_pair::pair_top;
@@ -149,8 +150,8 @@ pub(crate) fn ends_as<R: Threads + Sync + Abort>(
 
 /// A command ended as is wanted.
 pub(crate) fn is_as<R: Abort>(rt: &R, ended: &Ended, wanted: Wanted<'_>) -> Result<(), Fail> {
-    assert_eq!(rt; ended.notes.written(), wanted.note.as_bytes());
-    assert_eq!(rt; ended.code, wanted.code);
-    assert_eq!(rt; ended.out.written(), wanted.out);
+    same(rt, ended.notes.written(), wanted.note.as_bytes());
+    same(rt, ended.code, wanted.code);
+    same(rt, ended.out.written(), wanted.out);
     Ok(())
 }

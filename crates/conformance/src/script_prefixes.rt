@@ -1,4 +1,5 @@
 use crate::running::{Wanted, done, ends_as, reading, run, sound};
+use crate::same::same;
 use samples::first_run::{CLEAR_PICTURES, COMPILE, EXPECT, SCRIPT};
 use std::alloc::Global;
 use std::process::Abort;
@@ -60,9 +61,9 @@ fn is_compiled<R: Threads + Sync + Abort>(
     } else {
         (3, line)
     };
-    assert_eq!(rt; ended.notes.written(), note.as_bytes());
-    assert_eq!(rt; ended.code, code);
-    assert_eq!(rt; ended.out.written().len(), size);
+    same(rt, ended.notes.written(), note.as_bytes());
+    same(rt, ended.code, code);
+    same(rt, ended.out.written().len(), size);
     Ok(())
 }
 
@@ -98,7 +99,7 @@ fn prefixes_of_a_script_are_compiled(rt: HostRuntime) -> Result<(), Fail> {
         }
     }
     script.push_str("\n")?;
-    assert_eq!(rt; script.as_str(), SCRIPT);
+    same(&rt, script.as_str(), SCRIPT);
     Ok(())
 }
 
@@ -116,6 +117,6 @@ fn prefixes_of_a_script_are_shown(rt: HostRuntime) -> Result<(), Fail> {
         }
     }
     script.push_str("a\n")?;
-    assert_eq!(rt; script.as_str(), SCRIPT);
+    same(&rt, script.as_str(), SCRIPT);
     Ok(())
 }

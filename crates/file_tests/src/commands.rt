@@ -1,3 +1,4 @@
+use crate::same::same;
 use command_files::{carry_out, told};
 use dvbsub_cmd::{Status, Which};
 use std::fs;
@@ -54,7 +55,7 @@ fn codes_of_commands_that_fail(rt: HostRuntime) -> Result<(), Fail> {
         (long_script, 8),
     ];
     for (line, code) in cases {
-        assert_eq!(rt; code_of_line(&rt, &rt, line)?, code);
+        same(&rt, code_of_line(&rt, &rt, line)?, code);
     }
     Ok(())
 }
@@ -80,9 +81,9 @@ fn the_table_of_commands_is_told(rt: HostRuntime) -> Result<(), Fail> {
     for (status, code, table, line) in cases {
         let mut errors = MemSink::make(alloc, 1000, Vec::new(alloc));
         let mut out = MemSink::make(alloc, 1000, Vec::new(alloc));
-        assert_eq!(rt; told(status, &mut errors, &mut out), code);
-        assert_eq!(rt; errors.written(), table.as_bytes());
-        assert_eq!(rt; out.written(), line.as_bytes());
+        same(&rt, told(status, &mut errors, &mut out), code);
+        same(&rt, errors.written(), table.as_bytes());
+        same(&rt, out.written(), line.as_bytes());
     }
     Ok(())
 }
@@ -93,13 +94,13 @@ fn the_font_is_its_own_file(rt: HostRuntime) -> Result<(), Fail> {
     let folder = folder_of(&rt, "font")?;
     let f = folder.as_str();
     let whole = format!(in rt.alloc(); "compile sd 256 1 {f}/s {f}/f {f}/out")?;
-    assert_eq!(rt; code_of_line(&rt, &rt, whole.as_str())?, 0);
+    same(&rt, code_of_line(&rt, &rt, whole.as_str())?, 0);
     let missing = format!(in rt.alloc(); "compile sd 256 1 {f}/s {f}/none {f}/out")?;
-    assert_eq!(rt; code_of_line(&rt, &rt, missing.as_str())?, 5);
+    same(&rt, code_of_line(&rt, &rt, missing.as_str())?, 5);
     let long = format!(in rt.alloc(); "compile sd 256 1 {f}/s /dev/zero {f}/out")?;
-    assert_eq!(rt; code_of_line(&rt, &rt, long.as_str())?, 8);
+    same(&rt, code_of_line(&rt, &rt, long.as_str())?, 8);
     let script = format!(in rt.alloc(); "compile sd 256 1 {f}/s {f}/s {f}/out")?;
-    assert_eq!(rt; code_of_line(&rt, &rt, script.as_str())?, 3);
+    same(&rt, code_of_line(&rt, &rt, script.as_str())?, 3);
     fs::remove_dir_all(&rt, f)?;
     Ok(())
 }
@@ -141,10 +142,10 @@ fn nothing_is_overwritten(rt: HostRuntime) -> Result<(), Fail> {
         ),
     ];
     for (line, code) in &lines {
-        assert_eq!(rt; code_of_line(&rt, &rt, line.as_str())?, *code);
-        assert_eq!(rt; text_in(&rt, f, "s")?.as_str(), SCRIPT);
-        assert_eq!(rt; text_in(&rt, f, "f")?.as_str(), FONT);
-        assert_eq!(rt; text_in(&rt, f, "old")?.as_str(), "old");
+        same(&rt, code_of_line(&rt, &rt, line.as_str())?, *code);
+        same(&rt, text_in(&rt, f, "s")?.as_str(), SCRIPT);
+        same(&rt, text_in(&rt, f, "f")?.as_str(), FONT);
+        same(&rt, text_in(&rt, f, "old")?.as_str(), "old");
     }
     fs::remove_dir_all(&rt, f)?;
     Ok(())
@@ -159,8 +160,8 @@ fn what_was_told_is_kept(rt: HostRuntime) -> Result<(), Fail> {
     let stream = format!(in rt.alloc(); "{f}/stream")?;
     fs::write(&rt, stream.as_str(), [0; 188].as_slice())?;
     let line = format!(in rt.alloc(); "list 256 {f}/stream {f}/old")?;
-    assert_eq!(rt; code_of_line(&rt, &rt, line.as_str())?, 4);
-    assert_eq!(rt; text_in(&rt, f, "old")?.as_str(), "");
+    same(&rt, code_of_line(&rt, &rt, line.as_str())?, 4);
+    same(&rt, text_in(&rt, f, "old")?.as_str(), "");
     fs::remove_dir_all(&rt, f)?;
     Ok(())
 }

@@ -2,7 +2,10 @@
 //! is no code here but tests.
 #![tactic(auto)]
 
+// A comparison as a call.
 #[cfg(test)]
 mod commands;
+#[cfg(test)]
+mod same;
 #[cfg(test)]
 mod tools;

@@ -1,3 +1,4 @@
+use crate::same::same;
 use service_mux::MuxFault;
 use std::test::Fail;
 use sub_base::{MemSink, ToolStatus, Which, Words};
@@ -66,7 +67,7 @@ fn codes_of_tools_that_fail(rt: HostRuntime) -> Result<(), Fail> {
         for word in line.split(' ') {
             words.push(word)?;
         }
-        assert_eq!(rt; carry_out(&rt, &rt, &words), code);
+        same(&rt, carry_out(&rt, &rt, &words), code);
     }
     Ok(())
 }
@@ -102,9 +103,9 @@ fn the_table_of_tools_is_told(rt: HostRuntime) -> Result<(), Fail> {
     for (status, code, table, line) in cases {
         let mut errors = MemSink::make(alloc, 1000, Vec::new(alloc));
         let mut out = MemSink::make(alloc, 1000, Vec::new(alloc));
-        assert_eq!(rt; told(status, &mut errors, &mut out), code);
-        assert_eq!(rt; errors.written(), table.as_bytes());
-        assert_eq!(rt; out.written(), line.as_bytes());
+        same(&rt, told(status, &mut errors, &mut out), code);
+        same(&rt, errors.written(), table.as_bytes());
+        same(&rt, out.written(), line.as_bytes());
     }
     Ok(())
 }

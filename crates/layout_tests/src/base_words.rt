@@ -1,5 +1,6 @@
 ghost use Rattle.std.specs.Prelude.{◌≤◌};
 
+use crate::same::same;
 use std::alloc::Global;
 use std::test::Fail;
 use sub_base::{
@@ -14,32 +15,51 @@ fn colour(y: u8, cr: u8, cb: u8, t: u8) -> Colour {
 
 #[test]
 fn default_colours(rt: HostRuntime) -> Result<(), Fail> {
-    assert_eq!(rt;
+    same(
+        &rt,
         default_colour(Depth::Eight, 1),
-        colour(0x51, 0xF0, 0x5A, 0xC0)
+        colour(0x51, 0xF0, 0x5A, 0xC0),
     );
-    assert_eq!(rt;
+    same(
+        &rt,
         default_colour(Depth::Eight, 2),
-        colour(0x91, 0x22, 0x36, 0xC0)
+        colour(0x91, 0x22, 0x36, 0xC0),
     );
-    assert_eq!(rt;
+    same(
+        &rt,
         default_colour(Depth::Eight, 3),
-        colour(0xD2, 0x92, 0x10, 0xC0)
+        colour(0xD2, 0x92, 0x10, 0xC0),
     );
-    assert_eq!(rt; default_colour(Depth::Four, 2), colour(0x91, 0x22, 0x36, 0));
-    assert_eq!(rt; default_colour(Depth::Four, 4), colour(0x29, 0x6E, 0xF0, 0));
-    assert_eq!(rt; default_colour(Depth::Two, 1), colour(0xEB, 0x80, 0x80, 0));
-    assert_eq!(rt; default_colour(Depth::Two, 3), colour(0x7E, 0x80, 0x80, 0));
-    assert_eq!(rt; default_colour(Depth::Two, 0).shown(), CLEAR);
+    same(
+        &rt,
+        default_colour(Depth::Four, 2),
+        colour(0x91, 0x22, 0x36, 0),
+    );
+    same(
+        &rt,
+        default_colour(Depth::Four, 4),
+        colour(0x29, 0x6E, 0xF0, 0),
+    );
+    same(
+        &rt,
+        default_colour(Depth::Two, 1),
+        colour(0xEB, 0x80, 0x80, 0),
+    );
+    same(
+        &rt,
+        default_colour(Depth::Two, 3),
+        colour(0x7E, 0x80, 0x80, 0),
+    );
+    same(&rt, default_colour(Depth::Two, 0).shown(), CLEAR);
     Ok(())
 }
 
 #[test]
 fn profiles_differ(rt: HostRuntime) {
-    assert_eq!(rt; Profile::of(ProfileName::Sd).step, Some(705));
-    assert_eq!(rt; Profile::of(ProfileName::Hd).coded, 61_440);
-    assert_eq!(rt; Profile::of(ProfileName::Wide).nodes, 8_192);
-    assert_eq!(rt; Profile::of(ProfileName::Large).step, Some(90));
+    same(&rt, Profile::of(ProfileName::Sd).step, Some(705));
+    same(&rt, Profile::of(ProfileName::Hd).coded, 61_440);
+    same(&rt, Profile::of(ProfileName::Wide).nodes, 8_192);
+    same(&rt, Profile::of(ProfileName::Large).step, Some(90));
 }
 
 #[test]
@@ -47,24 +67,25 @@ fn words_in_order(rt: HostRuntime) -> Result<(), Fail> {
     let mut words = Words::make(rt.alloc());
     words.push("list")?;
     words.push("256")?;
-    assert_eq!(rt; words.count(), 2);
-    assert_eq!(rt; words.word(1), "256");
+    same(&rt, words.count(), 2);
+    same(&rt, words.word(1), "256");
     Ok(())
 }
 
 #[test]
 fn decimal_numbers(rt: HostRuntime) {
-    assert_eq!(rt; decimal_number(b"0", 10), Some(0));
-    assert_eq!(rt; decimal_number(b"8589934591", 10), Some(8_589_934_591));
-    assert_eq!(rt; decimal_number(b"07", 10), None);
-    assert_eq!(rt; decimal_number(b"+7", 10), None);
-    assert_eq!(rt; decimal_number(b"12345678901", 10), None);
-    assert_eq!(rt; number_in(b"31", 32, 8_190), None);
-    assert_eq!(rt;
+    same(&rt, decimal_number(b"0", 10), Some(0));
+    same(&rt, decimal_number(b"8589934591", 10), Some(8_589_934_591));
+    same(&rt, decimal_number(b"07", 10), None);
+    same(&rt, decimal_number(b"+7", 10), None);
+    same(&rt, decimal_number(b"12345678901", 10), None);
+    same(&rt, number_in(b"31", 32, 8_190), None);
+    same(
+        &rt,
         number_in(b"17179869183", 0, 17_179_869_183),
-        Some(17_179_869_183)
+        Some(17_179_869_183),
     );
-    assert_eq!(rt; number_in(b"100000000000", 0, 999_999_999_999), None);
+    same(&rt, number_in(b"100000000000", 0, 999_999_999_999), None);
 }
 
 /// A source of the bytes 7, 8, 9, so many a call, that fails at that call.
@@ -79,19 +100,22 @@ fn source(alloc: Global, most: usize, fails: u64) -> Result<MemSource, Fail>
 #[test]
 fn sources_are_read_whole(rt: HostRuntime) -> Result<(), Fail> {
     let mut whole = source(rt.alloc(), 2, 9)?;
-    assert_eq!(rt;
+    same(
+        &rt,
         read_all(rt.alloc(), &mut whole, 3)?.as_slice(),
-        [7, 8, 9].as_slice()
+        [7, 8, 9].as_slice(),
     );
     let mut long = source(rt.alloc(), 2, 9)?;
-    assert_eq!(rt;
+    same(
+        &rt,
         read_all(rt.alloc(), &mut long, 2).err(),
-        Some(ReadAllFault::TooLong)
+        Some(ReadAllFault::TooLong),
     );
     let mut failing = source(rt.alloc(), 2, 2)?;
-    assert_eq!(rt;
+    same(
+        &rt,
         read_all(rt.alloc(), &mut failing, 3).err(),
-        Some(ReadAllFault::Read)
+        Some(ReadAllFault::Read),
     );
     Ok(())
 }
@@ -99,19 +123,19 @@ fn sources_are_read_whole(rt: HostRuntime) -> Result<(), Fail> {
 #[test]
 fn sinks_fail_at_their_calls(rt: HostRuntime) -> Result<(), Fail> {
     let mut sink = MemSink::make(rt.alloc(), 2, vec![in rt.alloc(); 3u64]?);
-    assert_eq!(rt; write_whole(&mut sink, b"abc"), Ok(()));
-    assert_eq!(rt; write_whole(&mut sink, b"de"), Err(WriteFailed));
-    assert_eq!(rt; write_whole(&mut sink, b"fg"), Ok(()));
-    assert_eq!(rt; sink.written(), b"abcfg".as_slice());
+    same(&rt, write_whole(&mut sink, b"abc"), Ok(()));
+    same(&rt, write_whole(&mut sink, b"de"), Err(WriteFailed));
+    same(&rt, write_whole(&mut sink, b"fg"), Ok(()));
+    same(&rt, sink.written(), b"abcfg".as_slice());
     Ok(())
 }
 
 #[test]
 fn buffers_and_lists(rt: HostRuntime) -> Result<(), Fail> {
-    assert_eq!(rt; zeros(rt.alloc(), 2)?.as_slice(), [0u8, 0].as_slice());
+    same(&rt, zeros(rt.alloc(), 2)?.as_slice(), [0u8, 0].as_slice());
     let mut items = Items::new(rt.alloc(), vec![in rt.alloc(); 7u32]?);
     items.push(8)?;
-    assert_eq!(rt; items.as_slice(), [7u32, 8].as_slice());
+    same(&rt, items.as_slice(), [7u32, 8].as_slice());
     Ok(())
 }
 
@@ -123,22 +147,22 @@ fn sets_wait_for_the_one_before(rt: HostRuntime) {
         size: 31,
         painted: 4,
     };
-    assert_eq!(rt; load.done(705, 900), 935);
-    assert_eq!(rt; load.done(705, 0), 740);
+    same(&rt, load.done(705, 900), 935);
+    same(&rt, load.done(705, 0), 740);
 }
 
 #[test]
 fn files_that_are_not_there(rt: HostRuntime) -> Result<(), Fail> {
     let mut buffer = [0u8; 4];
     let mut bytes = FileSource::make(Some(b"xyz".as_slice()));
-    assert_eq!(rt; bytes.read(&mut buffer), Ok(3));
-    assert_eq!(rt; bytes.read(&mut buffer), Ok(0));
+    same(&rt, bytes.read(&mut buffer), Ok(3));
+    same(&rt, bytes.read(&mut buffer), Ok(0));
     let mut none: FileSource<&[u8]> = FileSource::make(None);
-    assert_eq!(rt; none.read(&mut buffer), Err(ReadFailed));
+    same(&rt, none.read(&mut buffer), Err(ReadFailed));
     let mut taken = FileSink::make(Some(Vec::new(rt.alloc())));
-    assert_eq!(rt; write_whole(&mut taken, b"xyz"), Ok(()));
+    same(&rt, write_whole(&mut taken, b"xyz"), Ok(()));
     let mut closed: FileSink<Vec<u8>> = FileSink::make(None);
-    assert_eq!(rt; closed.write(b"xyz"), Err(WriteFailed));
+    same(&rt, closed.write(b"xyz"), Err(WriteFailed));
     Ok(())
 }
 

@@ -1,3 +1,4 @@
+use crate::same::same;
 use pcr_clock::{sample_of, spread_tick, tick_of_time, time_behind};
 use std::test::Fail;
 
@@ -15,22 +16,26 @@ fn packet_of(length: u8, flags: u8) -> [u8; 188] {
 /// PID.
 #[test]
 fn samples_of_packets(rt: HostRuntime) -> Result<(), Fail> {
-    assert_eq!(rt; sample_of(256, &packet_of(7, 0x10)), Some(27_000_005));
-    assert_eq!(rt; sample_of(256, &packet_of(183, 0x50)), Some(27_000_005));
-    assert_eq!(rt; sample_of(256, &packet_of(7, 0xEF)), None);
-    assert_eq!(rt; sample_of(256, &packet_of(6, 0x10)), None);
-    assert_eq!(rt; sample_of(257, &packet_of(7, 0x10)), None);
+    same(&rt, sample_of(256, &packet_of(7, 0x10)), Some(27_000_005));
+    same(&rt, sample_of(256, &packet_of(183, 0x50)), Some(27_000_005));
+    same(&rt, sample_of(256, &packet_of(7, 0xEF)), None);
+    same(&rt, sample_of(256, &packet_of(6, 0x10)), None);
+    same(&rt, sample_of(257, &packet_of(7, 0x10)), None);
     Ok(())
 }
 
 /// The clock goes round, and packets arrive evenly between two samples, rounded up.
 #[test]
 fn ticks_of_samples(rt: HostRuntime) -> Result<(), Fail> {
-    assert_eq!(rt; time_behind(None, 27_000_005), 27_000_005);
-    assert_eq!(rt; time_behind(Some(2_576_980_377_599), 0), 2_576_980_377_600);
-    assert_eq!(rt; time_behind(Some(27_000_005), 27_000_005), 27_000_005);
-    assert_eq!(rt; tick_of_time(27_000_005), 90_001);
-    assert_eq!(rt; spread_tick(27_000_000, 27_003_001, 3, 10), 90_004);
-    assert_eq!(rt; spread_tick(27_000_000, 27_003_001, 10, 10), 90_011);
+    same(&rt, time_behind(None, 27_000_005), 27_000_005);
+    same(
+        &rt,
+        time_behind(Some(2_576_980_377_599), 0),
+        2_576_980_377_600,
+    );
+    same(&rt, time_behind(Some(27_000_005), 27_000_005), 27_000_005);
+    same(&rt, tick_of_time(27_000_005), 90_001);
+    same(&rt, spread_tick(27_000_000, 27_003_001, 3, 10), 90_004);
+    same(&rt, spread_tick(27_000_000, 27_003_001, 10, 10), 90_011);
     Ok(())
 }

@@ -1,3 +1,4 @@
+use crate::same::same;
 use buffer_model::{Breach, Levels};
 use std::test::Fail;
 use sub_base::{Profile, ProfileName, SetLoad};
@@ -7,28 +8,29 @@ use sub_base::{Profile, ProfileName, SetLoad};
 #[test]
 fn set_leaves_when_done(rt: HostRuntime) -> Result<(), Fail> {
     let mut levels = Levels::make(rt.alloc(), &Profile::of(ProfileName::Sd), 0)?;
-    assert_eq!(rt; levels.arrive(0, 20_000), 20_000);
+    same(&rt, levels.arrive(0, 20_000), 20_000);
     let load = SetLoad {
         pts: 300_000,
         size: 20_000,
         painted: 7,
     };
-    assert_eq!(rt; levels.set_whole(load), 20_007);
-    assert_eq!(rt; levels.arrive(1, 4_416), 24_416);
-    assert_eq!(rt; levels.arrive(29, 184), 4_600);
-    assert_eq!(rt; levels.tick(), 20_445);
+    same(&rt, levels.set_whole(load), 20_007);
+    same(&rt, levels.arrive(1, 4_416), 24_416);
+    same(&rt, levels.arrive(29, 184), 4_600);
+    same(&rt, levels.tick(), 20_445);
     levels.drop_unit();
-    assert_eq!(rt; levels.peak(), 24_416);
-    assert_eq!(rt; levels.first_breach(), None);
-    assert_eq!(rt; levels.arrive(30, 24_577), 24_577);
-    assert_eq!(rt; levels.arrive(31, 1), 24_577);
-    assert_eq!(rt; levels.peak(), 24_577);
-    assert_eq!(rt;
+    same(&rt, levels.peak(), 24_416);
+    same(&rt, levels.first_breach(), None);
+    same(&rt, levels.arrive(30, 24_577), 24_577);
+    same(&rt, levels.arrive(31, 1), 24_577);
+    same(&rt, levels.peak(), 24_577);
+    same(
+        &rt,
         levels.first_breach(),
         Some(Breach::Coded {
             slot: 30,
-            level: 24_577
-        })
+            level: 24_577,
+        }),
     );
     Ok(())
 }
@@ -37,19 +39,20 @@ fn set_leaves_when_done(rt: HostRuntime) -> Result<(), Fail> {
 #[test]
 fn set_done_late(rt: HostRuntime) -> Result<(), Fail> {
     let mut levels = Levels::make(rt.alloc(), &Profile::of(ProfileName::Sd), 0)?;
-    assert_eq!(rt; levels.arrive(0, 184), 184);
+    same(&rt, levels.arrive(0, 184), 184);
     let load = SetLoad {
         pts: 183,
         size: 184,
         painted: 0,
     };
-    assert_eq!(rt; levels.set_whole(load), 184);
-    assert_eq!(rt;
+    same(&rt, levels.set_whole(load), 184);
+    same(
+        &rt,
         levels.first_breach(),
         Some(Breach::Late {
             done: 184,
-            pts: 183
-        })
+            pts: 183,
+        }),
     );
     Ok(())
 }
@@ -58,26 +61,27 @@ fn set_done_late(rt: HostRuntime) -> Result<(), Fail> {
 #[test]
 fn largest_buffer(rt: HostRuntime) -> Result<(), Fail> {
     let mut levels = Levels::make(rt.alloc(), &Profile::of(ProfileName::Large), 0)?;
-    assert_eq!(rt; levels.arrive(556, 60_090), 60_090);
-    assert_eq!(rt; levels.arrive(1_000, 60_031), 120_121);
-    assert_eq!(rt; levels.arrive(1_536, 60_037), 180_158);
+    same(&rt, levels.arrive(556, 60_090), 60_090);
+    same(&rt, levels.arrive(1_000, 60_031), 120_121);
+    same(&rt, levels.arrive(1_536, 60_037), 180_158);
     let load = SetLoad {
         pts: 500_000,
         size: 180_158,
         painted: 32_400,
     };
-    assert_eq!(rt; levels.set_whole(load), 350_798);
-    assert_eq!(rt; levels.arrive(1_537, 65_536), 245_694);
-    assert_eq!(rt; levels.arrive(1_538, 16_450), 262_144);
-    assert_eq!(rt; levels.first_breach(), None);
-    assert_eq!(rt; levels.arrive(1_539, 1), 262_145);
-    assert_eq!(rt; levels.peak(), 262_145);
-    assert_eq!(rt;
+    same(&rt, levels.set_whole(load), 350_798);
+    same(&rt, levels.arrive(1_537, 65_536), 245_694);
+    same(&rt, levels.arrive(1_538, 16_450), 262_144);
+    same(&rt, levels.first_breach(), None);
+    same(&rt, levels.arrive(1_539, 1), 262_145);
+    same(&rt, levels.peak(), 262_145);
+    same(
+        &rt,
         levels.first_breach(),
         Some(Breach::Coded {
             slot: 1_539,
-            level: 262_145
-        })
+            level: 262_145,
+        }),
     );
     Ok(())
 }
@@ -86,23 +90,24 @@ fn largest_buffer(rt: HostRuntime) -> Result<(), Fail> {
 #[test]
 fn packets_by_the_tick(rt: HostRuntime) -> Result<(), Fail> {
     let mut levels = Levels::by_ticks(rt.alloc(), &Profile::of(ProfileName::Sd))?;
-    assert_eq!(rt; levels.arrive(7, 20_000), 20_000);
-    assert_eq!(rt; levels.tick(), 7);
+    same(&rt, levels.arrive(7, 20_000), 20_000);
+    same(&rt, levels.tick(), 7);
     let load = SetLoad {
         pts: 300_000,
         size: 20_000,
         painted: 0,
     };
-    assert_eq!(rt; levels.set_whole(load), 20_007);
-    assert_eq!(rt; levels.arrive(20_006, 184), 20_184);
-    assert_eq!(rt; levels.arrive(20_006, 4_393), 24_577);
-    assert_eq!(rt; levels.peak(), 24_577);
-    assert_eq!(rt;
+    same(&rt, levels.set_whole(load), 20_007);
+    same(&rt, levels.arrive(20_006, 184), 20_184);
+    same(&rt, levels.arrive(20_006, 4_393), 24_577);
+    same(&rt, levels.peak(), 24_577);
+    same(
+        &rt,
         levels.first_breach(),
         Some(Breach::Coded {
             slot: 20_006,
-            level: 24_577
-        })
+            level: 24_577,
+        }),
     );
     Ok(())
 }

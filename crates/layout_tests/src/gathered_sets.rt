@@ -1,6 +1,7 @@
 ghost use Rattle.std.specs.Prelude.{◌≡◌, [], true};
 ghost use Rattle.display_sets.specs.Gathered.{ready_sets};
 
+use crate::same::same;
 use display_sets::{Gathering, Pages, Ready, SetFault, UnitEnd};
 use std::alloc::Global;
 use std::test::Fail;
@@ -169,7 +170,7 @@ fn units_come_to_sets(rt: HostRuntime) -> Result<(), Fail> {
         taken_as(720_000, 34, &CUT, UnitEnd::Taken, &cut),
     ];
     let mut gathering = Gathering::make(rt.alloc(), Pages::only(1), 20)?;
-    assert_eq!(rt; first_wrong(&mut gathering, &rows), None);
+    same(&rt, first_wrong(&mut gathering, &rows), None);
     Ok(())
 }
 
@@ -219,11 +220,11 @@ fn what_counts_of_which_page(rt: HostRuntime) -> Result<(), Fail> {
         composition: 1,
         ancillary: 2,
     };
-    assert_eq!(rt; counted(rt.alloc(), two, 1)?, whole);
-    assert_eq!(rt; counted(rt.alloc(), two, 2)?, shared);
-    assert_eq!(rt; counted(rt.alloc(), two, 3)?, nothing);
-    assert_eq!(rt; counted(rt.alloc(), Pages::only(2), 2)?, whole);
-    assert_eq!(rt; counted(rt.alloc(), Pages::only(2), 1)?, nothing);
+    same(&rt, counted(rt.alloc(), two, 1)?, whole);
+    same(&rt, counted(rt.alloc(), two, 2)?, shared);
+    same(&rt, counted(rt.alloc(), two, 3)?, nothing);
+    same(&rt, counted(rt.alloc(), Pages::only(2), 2)?, whole);
+    same(&rt, counted(rt.alloc(), Pages::only(2), 1)?, nothing);
     Ok(())
 }
 

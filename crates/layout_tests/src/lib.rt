@@ -3,6 +3,10 @@
 //! There is no code here but tests, so that no crate is proved again for them.
 #![tactic(auto)]
 
+// A comparison as a call.
+#[cfg(test)]
+mod same;
+
 // Words that all crates share: numbers, lists, sources and sinks.
 #[cfg(test)]
 mod base_words;

@@ -1,3 +1,5 @@
+use crate::same::same;
+use samples::streams::packet_of;
 use std::test::Fail;
 use ts_packets::{Demux, Event, PacketFault, Packetiser, null_packet};
 
@@ -21,36 +23,27 @@ const FIRST_HEAD: [u8; 6] = [0x47, 0x41, 0x00, 0x30, 0x55, 0x00];
 
 const SECOND_HEAD: [u8; 6] = [0x47, 0x41, 0x00, 0x31, 0x98, 0x00];
 
-/// A packet that begins with these bytes and ends with the unit's, with FF between.
-fn packet_of(head: &[u8], unit: &[u8]) -> [u8; 188] {
-    let mut packet = [0xFF; 188];
-    for (byte, given) in packet.iter_mut().zip(head) {
-        *byte = *given;
-    }
-    for (byte, given) in packet.iter_mut().rev().zip(unit.iter().rev()) {
-        *byte = *given;
-    }
-    packet
-}
-
 #[test]
 fn worked_packets_are_written(rt: HostRuntime) {
     let mut packetiser = Packetiser::make(256);
     let mut packet = [0; 188];
     packetiser.packet(&FIRST_UNIT, true, &mut packet);
-    assert_eq!(rt;
+    same(
+        &rt,
         packet.as_slice(),
-        packet_of(&FIRST_HEAD, &FIRST_UNIT).as_slice()
+        packet_of(&FIRST_HEAD, &FIRST_UNIT).as_slice(),
     );
     packetiser.packet(&SECOND_UNIT, true, &mut packet);
-    assert_eq!(rt;
+    same(
+        &rt,
         packet.as_slice(),
-        packet_of(&SECOND_HEAD, &SECOND_UNIT).as_slice()
+        packet_of(&SECOND_HEAD, &SECOND_UNIT).as_slice(),
     );
     null_packet(&mut packet);
-    assert_eq!(rt;
+    same(
+        &rt,
         packet.as_slice(),
-        packet_of(&[0x47, 0x1F, 0xFF, 0x10], &[]).as_slice()
+        packet_of(&[0x47, 0x1F, 0xFF, 0x10], &[]).as_slice(),
     );
 }
 
@@ -58,30 +51,32 @@ fn worked_packets_are_written(rt: HostRuntime) {
 fn worked_stream_gives_its_two_units(rt: HostRuntime) -> Result<(), Fail> {
     let mut demux = Demux::make(rt.alloc(), 256, 24_576)?;
     let fed = demux.feed(&packet_of(&FIRST_HEAD, &FIRST_UNIT))?;
-    assert_eq!(rt; fed.event, Event::Followed);
-    assert_eq!(rt; fed.unit.ok_or("no unit")?, FIRST_UNIT.as_slice());
+    same(&rt, fed.event, Event::Followed);
+    same(&rt, fed.unit.ok_or("no unit")?, FIRST_UNIT.as_slice());
     let fed = demux.feed(&packet_of(&SECOND_HEAD, &SECOND_UNIT))?;
-    assert_eq!(rt; fed.event, Event::Followed);
-    assert_eq!(rt; fed.unit.ok_or("no unit")?, SECOND_UNIT.as_slice());
+    same(&rt, fed.event, Event::Followed);
+    same(&rt, fed.unit.ok_or("no unit")?, SECOND_UNIT.as_slice());
     Ok(())
 }
 
 #[test]
 fn unit_behind_missing_packets_comes_out(rt: HostRuntime) -> Result<(), Fail> {
     let mut demux = Demux::make(rt.alloc(), 256, 24_576)?;
-    assert_eq!(rt;
+    same(
+        &rt,
         demux.feed(&packet_of(&FIRST_HEAD, &FIRST_UNIT))?.event,
-        Event::Followed
+        Event::Followed,
     );
     let fed = demux.feed(&packet_of(&[0x47, 0x41, 0x00, 0x33, 0x98, 0x00], &SECOND_UNIT))?;
-    assert_eq!(rt;
+    same(
+        &rt,
         fed.event,
         Event::Gap {
             expected: 1,
-            found: 3
-        }
+            found: 3,
+        },
     );
-    assert_eq!(rt; fed.unit.ok_or("no unit")?, SECOND_UNIT.as_slice());
+    same(&rt, fed.unit.ok_or("no unit")?, SECOND_UNIT.as_slice());
     Ok(())
 }
 
@@ -126,14 +121,14 @@ fn each_event_has_its_numbers(rt: HostRuntime) -> Result<(), Fail> {
         for (byte, given) in packet.iter_mut().zip(&head) {
             *byte = *given;
         }
-        assert_eq!(rt; demux.is_other(&packet), event == Event::Other);
+        same(&rt, demux.is_other(&packet), event == Event::Other);
         let fed = demux.feed(&packet)?;
-        assert_eq!(rt; fed.event, event);
-        assert_eq!(rt; fed.unit.map_or(0, |unit| unit.len()), length);
+        same(&rt, fed.event, event);
+        same(&rt, fed.unit.map_or(0, |unit| unit.len()), length);
     }
     let mut small = Demux::make(rt.alloc(), 256, 97)?;
     let fed = small.feed(&packet_of(&FIRST_HEAD, &FIRST_UNIT))?;
-    assert_eq!(rt; fed.event, Event::TooLong { need: 98, size: 97 });
+    same(&rt, fed.event, Event::TooLong { need: 98, size: 97 });
     assert!(rt; fed.unit.is_none());
     Ok(())
 }
@@ -152,9 +147,9 @@ fn faults_leave_the_demultiplexer_as_it_was(rt: HostRuntime) -> Result<(), Fail>
     ];
     for (head, fault) in table {
         assert!(rt; !demux.is_other(&packet_of(&head, &[])));
-        assert_eq!(rt; demux.feed(&packet_of(&head, &[])).err(), Some(fault));
+        same(&rt, demux.feed(&packet_of(&head, &[])).err(), Some(fault));
     }
     let fed = demux.feed(&packet_of(&SECOND_HEAD, &SECOND_UNIT))?;
-    assert_eq!(rt; fed.unit.ok_or("no unit")?, SECOND_UNIT.as_slice());
+    same(&rt, fed.unit.ok_or("no unit")?, SECOND_UNIT.as_slice());
     Ok(())
 }

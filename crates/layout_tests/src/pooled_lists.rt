@@ -2,6 +2,7 @@ ghost use Rattle.std.specs.Prelude.{◌≡◌, ◌≢◌, ℕ, ◌*◌, ◌<◌,
 ghost use Rattle.comp_pool.specs.Pool.{list_of, NoneTwice};
 ghost use Rattle.layout_tests.specs.Private.ManyNodes.{HasIndex};
 
+use crate::same::same;
 use comp_pool::{Full, NodeId, Pool};
 use std::alloc::{AllocError, Global};
 use std::process::Abort;
@@ -29,11 +30,15 @@ fn full_pool_refuses(rt: HostRuntime) -> Result<(), Fail> {
     let mut pool = Pool::make(rt.alloc(), 2, 2, 0u32)?;
     let five = pool.push_back(0, 5)?;
     pool.push_back(0, 6)?;
-    assert_eq!(rt; pool.free_nodes(), 0);
-    assert_eq!(rt; pool.push_back(1, 7), Err(Full));
-    assert_eq!(rt; pool.unlink(0, five), 5);
-    assert_eq!(rt; items_of(rt.alloc(), &pool, 0)?.as_slice(), [6].as_slice());
-    assert_eq!(rt; pool.free_nodes(), 1);
+    same(&rt, pool.free_nodes(), 0);
+    same(&rt, pool.push_back(1, 7), Err(Full));
+    same(&rt, pool.unlink(0, five), 5);
+    same(
+        &rt,
+        items_of(rt.alloc(), &pool, 0)?.as_slice(),
+        [6].as_slice(),
+    );
+    same(&rt, pool.free_nodes(), 1);
     Ok(())
 }
 
@@ -45,26 +50,29 @@ fn middle_node_taken_out(rt: HostRuntime) -> Result<(), Fail> {
     pool.push_back(0, 5)?;
     let six = pool.push_back(0, 6)?;
     pool.push_back(0, 7)?;
-    assert_eq!(rt; pool.unlink(0, six), 6);
-    assert_eq!(rt;
+    same(&rt, pool.unlink(0, six), 6);
+    same(
+        &rt,
         items_of(rt.alloc(), &pool, 0)?.as_slice(),
-        [5, 7].as_slice()
+        [5, 7].as_slice(),
     );
-    assert_eq!(rt; pool.free_nodes(), 1);
+    same(&rt, pool.free_nodes(), 1);
     let eight = pool.push_back(0, 8)?;
-    assert_eq!(rt;
+    same(
+        &rt,
         items_of(rt.alloc(), &pool, 0)?.as_slice(),
-        [5, 7, 8].as_slice()
+        [5, 7, 8].as_slice(),
     );
-    assert_eq!(rt; pool.free_nodes(), 0);
-    assert_eq!(rt; pool.item(eight), 8);
+    same(&rt, pool.free_nodes(), 0);
+    same(&rt, pool.item(eight), 8);
     pool.set_item(eight, 9);
-    assert_eq!(rt;
+    same(
+        &rt,
         items_of(rt.alloc(), &pool, 0)?.as_slice(),
-        [5, 7, 9].as_slice()
+        [5, 7, 9].as_slice(),
     );
     pool.clear(0);
-    assert_eq!(rt; pool.free_nodes(), 3);
+    same(&rt, pool.free_nodes(), 3);
     Ok(())
 }
 
@@ -76,15 +84,15 @@ fn lists_of_their_own(rt: HostRuntime) -> Result<(), Fail> {
     let one = pool.push_back(0, 1)?;
     let two = pool.push_back(1, 2)?;
     let three = pool.push_back(0, 3)?;
-    assert_eq!(rt; pool.first(0), Some(one));
-    assert_eq!(rt; pool.next(one), Some(three));
-    assert_eq!(rt; pool.next(three), None);
-    assert_eq!(rt; pool.first(1), Some(two));
-    assert_eq!(rt; pool.next(two), None);
+    same(&rt, pool.first(0), Some(one));
+    same(&rt, pool.next(one), Some(three));
+    same(&rt, pool.next(three), None);
+    same(&rt, pool.first(1), Some(two));
+    same(&rt, pool.next(two), None);
     pool.reset();
-    assert_eq!(rt; pool.first(0), None);
-    assert_eq!(rt; pool.first(1), None);
-    assert_eq!(rt; pool.free_nodes(), 3);
+    same(&rt, pool.first(0), None);
+    same(&rt, pool.first(1), None);
+    same(&rt, pool.free_nodes(), 3);
     Ok(())
 }
 
@@ -114,7 +122,7 @@ fn take_out(rt: &impl Abort, pool: &mut Pool<u32>, nodes: &[NodeId], index: u32)
     ensures distinct { NoneTwice pool.new }
 {
     let item = pool.unlink(0, nodes[index as usize]);
-    assert_eq!(rt; item, index);
+    same(rt, item, index);
 }
 
 fn take_odd(rt: &impl Abort, pool: &mut Pool<u32>, nodes: &[NodeId], half: u32)
@@ -147,10 +155,10 @@ fn take_even(rt: &impl Abort, pool: &mut Pool<u32>, nodes: &[NodeId], half: u32)
 fn many_nodes_in_any_order(rt: HostRuntime) -> Result<(), Fail> {
     let mut pool = Pool::make(rt.alloc(), 4_000_000, 1, 0u32)?;
     let nodes = push_all(rt.alloc(), &mut pool, 4_000_000)?;
-    assert_eq!(rt; pool.free_nodes(), 0);
+    same(&rt, pool.free_nodes(), 0);
     take_odd(&rt, &mut pool, nodes.as_slice(), 2_000_000);
-    assert_eq!(rt; pool.free_nodes(), 2_000_000);
+    same(&rt, pool.free_nodes(), 2_000_000);
     take_even(&rt, &mut pool, nodes.as_slice(), 2_000_000);
-    assert_eq!(rt; pool.free_nodes(), 4_000_000);
+    same(&rt, pool.free_nodes(), 4_000_000);
     Ok(())
 }

@@ -1,3 +1,4 @@
+use crate::same::same;
 use decoder_model::Pages;
 use set_reader::{Came, SetReader};
 use std::test::Fail;
@@ -27,35 +28,37 @@ fn packet_of(counter: u8) -> [u8; 188] {
 #[test]
 fn what_comes_of_packets(rt: HostRuntime) -> Result<(), Fail> {
     let mut reader = SetReader::make(rt.alloc(), 256, Pages::only(1), 24_576)?;
-    assert_eq!(rt;
+    same(
+        &rt,
         reader.feed(&packet_of(0)),
         Ok(Came {
             event: Event::Followed,
-            losses: 0
-        })
+            losses: 0,
+        }),
     );
-    assert_eq!(rt; reader.arrival().bytes, 31);
+    same(&rt, reader.arrival().bytes, 31);
     let Some(ready) = reader.ready() else {
         return Err(Fail::from("no set is ready"));
     };
-    assert_eq!(rt; (ready.time, ready.size), (90_000, 31));
-    assert_eq!(rt; ready.segments, Ok(&NORMAL[..]));
+    same(&rt, (ready.time, ready.size), (90_000, 31));
+    same(&rt, ready.segments, Ok(&NORMAL[..]));
     reader.give();
     assert!(rt; reader.ready().is_none());
     let mut scrambled = packet_of(2);
     scrambled[163] = 0x94;
-    assert_eq!(rt;
+    same(
+        &rt,
         reader.feed(&scrambled),
         Ok(Came {
             event: Event::Gap {
                 expected: 1,
-                found: 2
+                found: 2,
             },
-            losses: 2
-        })
+            losses: 2,
+        }),
     );
     assert!(rt; reader.arrival().dropped);
     assert!(rt; reader.ready().is_none());
-    assert_eq!(rt; reader.feed(&[0; 188]), Err(PacketFault::NoSync));
+    same(&rt, reader.feed(&[0; 188]), Err(PacketFault::NoSync));
     Ok(())
 }

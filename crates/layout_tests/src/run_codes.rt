@@ -1,5 +1,6 @@
 ghost use Rattle.std.specs.Prelude.{◌≤◌, length};
 
+use crate::same::{same, same_at};
 use pixel_codes::{
     CodeFault, CodeKind, Run, check_block, row_size, run_bits, run_length, write_row,
 };
@@ -9,42 +10,18 @@ use sub_base::Depth;
 #[test]
 fn least_bits_of_three_depths(rt: HostRuntime) {
     for (length, zeros, others) in [(11, 12, 10), (28, 16, 14), (284, 16, 16), (285, 20, 18)] {
-        assert_eq!(rt;
-            run_bits(Depth::Two, 0, length),
-            zeros,
-            "two bits, 0 at {length}"
-        );
-        assert_eq!(rt;
-            run_bits(Depth::Two, 2, length),
-            others,
-            "two bits, 2 at {length}"
-        );
+        same_at(&rt, length, run_bits(Depth::Two, 0, length), zeros);
+        same_at(&rt, length, run_bits(Depth::Two, 2, length), others);
     }
     for (length, zeros, others) in [(8, 8, 16), (24, 16, 16), (25, 20, 20), (281, 28, 24)] {
-        assert_eq!(rt;
-            run_bits(Depth::Four, 0, length),
-            zeros,
-            "four bits, 0 at {length}"
-        );
-        assert_eq!(rt;
-            run_bits(Depth::Four, 9, length),
-            others,
-            "four bits, 9 at {length}"
-        );
+        same_at(&rt, length, run_bits(Depth::Four, 0, length), zeros);
+        same_at(&rt, length, run_bits(Depth::Four, 9, length), others);
     }
     for (length, zeros, others) in [(2, 16, 16), (3, 16, 24), (127, 16, 24), (128, 32, 32)] {
-        assert_eq!(rt;
-            run_bits(Depth::Eight, 0, length),
-            zeros,
-            "eight bits, 0 at {length}"
-        );
-        assert_eq!(rt;
-            run_bits(Depth::Eight, 2, length),
-            others,
-            "eight bits, 2 at {length}"
-        );
+        same_at(&rt, length, run_bits(Depth::Eight, 0, length), zeros);
+        same_at(&rt, length, run_bits(Depth::Eight, 2, length), others);
     }
-    assert_eq!(rt; run_bits(Depth::Two, 1, 4_294_967_295), 241_970_000);
+    same(&rt, run_bits(Depth::Two, 1, 4_294_967_295), 241_970_000);
 }
 
 #[test]
@@ -52,11 +29,11 @@ fn lengths_of_runs(rt: HostRuntime) {
     let mut codes = [7; 50];
     for length in [1_usize, 2, 3, 15, 16, 17, 31, 32, 33, 47, 48, 49] {
         codes[length] = 9;
-        assert_eq!(rt; run_length(&codes), length);
-        assert_eq!(rt; run_length(&codes[..length]), length);
+        same(&rt, run_length(&codes), length);
+        same(&rt, run_length(&codes[..length]), length);
         codes[length] = 7;
     }
-    assert_eq!(rt; run_length(&codes), 50);
+    same(&rt, run_length(&codes), 50);
 }
 
 #[test]
@@ -67,8 +44,8 @@ fn rows_of_three_depths(rt: HostRuntime) -> Result<(), Fail> {
         &[1, 1, 0, 3, 3, 3, 3, 3, 3, 3, 3, 3, 3, 3, 3],
         &mut two,
     )?;
-    assert_eq!(rt; two.as_slice(), b"\x51\x08\x30\x00".as_slice());
-    assert_eq!(rt; row_size(Depth::Two, &[1, 1, 0, 3, 3, 3]), 3);
+    same(&rt, two.as_slice(), b"\x51\x08\x30\x00".as_slice());
+    same(&rt, row_size(Depth::Two, &[1, 1, 0, 3, 3, 3]), 3);
     let mut four = Vec::new(rt.alloc());
     write_row(
         Depth::Four,
@@ -77,12 +54,13 @@ fn rows_of_three_depths(rt: HostRuntime) -> Result<(), Fail> {
         ],
         &mut four,
     )?;
-    assert_eq!(rt; four.as_slice(), b"\x01\x70\xF0\x09\x00".as_slice());
+    same(&rt, four.as_slice(), b"\x01\x70\xF0\x09\x00".as_slice());
     let mut eight = Vec::new(rt.alloc());
     write_row(Depth::Eight, &[0, 0, 200, 200, 200, 1], &mut eight)?;
-    assert_eq!(rt;
+    same(
+        &rt,
         eight.as_slice(),
-        b"\x00\x02\x00\x83\xC8\x01\x00\x00".as_slice()
+        b"\x00\x02\x00\x83\xC8\x01\x00\x00".as_slice(),
     );
     Ok(())
 }
@@ -97,46 +75,51 @@ fn fault_of(bytes: &[u8], depth: Depth) -> Option<CodeFault>
 #[test]
 fn faults_and_their_places(rt: HostRuntime) {
     let cut = fault_of(&[0x12, 0x00, 0x02], Depth::Eight);
-    assert_eq!(rt;
+    same(
+        &rt,
         cut,
         Some(CodeFault {
             place: 0,
-            kind: CodeKind::CutString
-        })
+            kind: CodeKind::CutString,
+        }),
     );
     let short = fault_of(&[0x11, 0x10], Depth::Four);
-    assert_eq!(rt;
+    same(
+        &rt,
         short,
         Some(CodeFault {
             place: 0,
-            kind: CodeKind::CutString
-        })
+            kind: CodeKind::CutString,
+        }),
     );
     let deep = fault_of(&[0xF0, 0x12, 0x00, 0x00], Depth::Four);
-    assert_eq!(rt;
+    same(
+        &rt,
         deep,
         Some(CodeFault {
             place: 1,
-            kind: CodeKind::TooDeep
-        })
+            kind: CodeKind::TooDeep,
+        }),
     );
     let table = fault_of(&[0xF0, 0xF0, 0x21, 0x00, 0x01, 0x02], Depth::Eight);
-    assert_eq!(rt;
+    same(
+        &rt,
         table,
         Some(CodeFault {
             place: 2,
-            kind: CodeKind::CutTable
-        })
+            kind: CodeKind::CutTable,
+        }),
     );
     let unknown = fault_of(&[0x10, 0x00, 0x13], Depth::Two);
-    assert_eq!(rt;
+    same(
+        &rt,
         unknown,
         Some(CodeFault {
             place: 2,
-            kind: CodeKind::UnknownType
-        })
+            kind: CodeKind::UnknownType,
+        }),
     );
-    assert_eq!(rt; fault_of(&[], Depth::Two), None);
+    same(&rt, fault_of(&[], Depth::Two), None);
 }
 
 #[test]
@@ -179,10 +162,10 @@ fn runs_with_tables_and_lines(rt: HostRuntime) -> Result<(), Fail> {
         },
     ];
     for run in wanted {
-        assert_eq!(rt; runs.next_run(), Some(run));
+        same(&rt, runs.next_run(), Some(run));
     }
-    assert_eq!(rt; runs.next_run(), None);
-    assert_eq!(rt; runs.next_run(), None);
+    same(&rt, runs.next_run(), None);
+    same(&rt, runs.next_run(), None);
     Ok(())
 }
 
@@ -216,8 +199,8 @@ fn default_tables(rt: HostRuntime) -> Result<(), Fail> {
         },
     ];
     for run in wanted {
-        assert_eq!(rt; runs.next_run(), Some(run));
+        same(&rt, runs.next_run(), Some(run));
     }
-    assert_eq!(rt; runs.next_run(), None);
+    same(&rt, runs.next_run(), None);
     Ok(())
 }

@@ -1,3 +1,4 @@
+use crate::same::same;
 use pixel_codes::{CodeFault, CodeKind, check_block};
 use segments::{
     ClutEntry, Listing, ObjectSeg, PageEntry, RegionHead, Segment, SegmentFault, SegmentKind,
@@ -57,54 +58,64 @@ fn segments_of_a_usual_encoder(rt: HostRuntime) -> Result<(), Fail> {
     let Segment::Page(page) = read_segment(&PAGE)?.0 else {
         return Err(Fail::from("no page"));
     };
-    assert_eq!(rt;
+    same(
+        &rt,
         (page.time_out, page.version, page.state),
-        (10, 0, State::ModeChange)
+        (10, 0, State::ModeChange),
     );
-    assert_eq!(rt; page.count(), 1);
-    assert_eq!(rt;
+    same(&rt, page.count(), 1);
+    same(
+        &rt,
         page.entry(0),
         PageEntry {
             region: 1,
             x: 0,
-            y: 0
-        }
+            y: 0,
+        },
     );
 
     let Segment::Region(region) = read_segment(&REGION)?.0 else {
         return Err(Fail::from("no region"));
     };
-    assert_eq!(rt; (region.region, region.version, region.fill), (1, 0, true));
-    assert_eq!(rt;
+    same(
+        &rt,
+        (region.region, region.version, region.fill),
+        (1, 0, true),
+    );
+    same(
+        &rt,
         (region.width, region.height, region.depth),
-        (2, 1, Depth::Two)
+        (2, 1, Depth::Two),
     );
-    assert_eq!(rt;
+    same(
+        &rt,
         (region.clut, region.code8, region.code4, region.code2),
-        (0, 0, 0, 0)
+        (0, 0, 0, 0),
     );
-    assert_eq!(rt; region.count(), 1);
-    assert_eq!(rt;
+    same(&rt, region.count(), 1);
+    same(
+        &rt,
         region.listing(0),
         Listing {
             object: 5,
             x: 0,
-            y: 0
-        }
+            y: 0,
+        },
     );
 
     let Segment::Object(object) = read_segment(&OBJECT)?.0 else {
         return Err(Fail::from("no object"));
     };
-    assert_eq!(rt;
+    same(
+        &rt,
         (object.object, object.version, object.see_through),
-        (5, 0, false)
+        (5, 0, false),
     );
-    assert_eq!(rt; object.top, [0x10, 0x70, 0x00, 0xF0].as_slice());
-    assert_eq!(rt; object.bottom.len(), 0);
+    same(&rt, object.top, [0x10, 0x70, 0x00, 0xF0].as_slice());
+    same(&rt, object.bottom.len(), 0);
 
-    assert_eq!(rt; read_segment(&STUFFING)?, (Segment::Passed, 8));
-    assert_eq!(rt; read_segment(&END)?, (Segment::End, 6));
+    same(&rt, read_segment(&STUFFING)?, (Segment::Passed, 8));
+    same(&rt, read_segment(&END)?, (Segment::End, 6));
     Ok(())
 }
 
@@ -113,7 +124,7 @@ fn colours_of_a_clut(rt: HostRuntime) -> Result<(), Fail> {
     let Segment::Clut(clut) = read_segment(&CLUT)?.0 else {
         return Err(Fail::from("no CLUT"));
     };
-    assert_eq!(rt; (clut.clut, clut.version), (7, 2));
+    same(&rt, (clut.clut, clut.version), (7, 2));
     let mut items = clut.items();
     let full = Colour {
         y: 0x51,
@@ -134,10 +145,10 @@ fn colours_of_a_clut(rt: HostRuntime) -> Result<(), Fail> {
         eight,
         colour,
     };
-    assert_eq!(rt; items.next(), Some(entry(1, true, false, false, full)));
-    assert_eq!(rt; items.next(), Some(entry(2, false, true, true, short)));
-    assert_eq!(rt; items.next(), Some(entry(3, false, false, true, CLEAR)));
-    assert_eq!(rt; items.next(), None);
+    same(&rt, items.next(), Some(entry(1, true, false, false, full)));
+    same(&rt, items.next(), Some(entry(2, false, true, true, short)));
+    same(&rt, items.next(), Some(entry(3, false, false, true, CLEAR)));
+    same(&rt, items.next(), None);
     Ok(())
 }
 
@@ -152,8 +163,12 @@ fn a_window_inside_the_display(rt: HostRuntime) -> Result<(), Fail> {
         top: 0,
         bottom: 1,
     };
-    assert_eq!(rt; (display.version, display.width, display.height), (0, 4, 2));
-    assert_eq!(rt; display.window, Some(window));
+    same(
+        &rt,
+        (display.version, display.width, display.height),
+        (0, 4, 2),
+    );
+    same(&rt, display.window, Some(window));
     Ok(())
 }
 
@@ -331,14 +346,15 @@ fn segments_are_written(rt: HostRuntime) -> Result<(), Fail> {
     };
     write_segment(1, &page, &mut out)?;
     write_segment(1, &SegmentOut::End, &mut out)?;
-    assert_eq!(rt;
+    same(
+        &rt,
         out.as_slice(),
         [
             0x0F, 0x14, 0x00, 0x01, 0x00, 0x05, 0x07, 0x00, 0x03, 0x00, 0x01, 0x0F, 0x10, 0x00,
             0x01, 0x00, 0x08, 0x0C, 0x0B, 0x00, 0xFF, 0x00, 0x00, 0x00, 0x00, 0x0F, 0x80, 0x00,
             0x01, 0x00, 0x00,
         ]
-        .as_slice()
+        .as_slice(),
     );
     Ok(())
 }
@@ -368,13 +384,14 @@ fn a_region_is_written(rt: HostRuntime) -> Result<(), Fail> {
         listings: &listings,
     };
     write_segment(1, &region, &mut out)?;
-    assert_eq!(rt;
+    same(
+        &rt,
         out.as_slice(),
         [
             0x0F, 0x11, 0x00, 0x01, 0x00, 0x10, 0x00, 0x0F, 0x00, 0x04, 0x00, 0x02, 0x6F, 0x00,
             0x00, 0x03, 0x00, 0x00, 0x00, 0x00, 0xF0, 0x00,
         ]
-        .as_slice()
+        .as_slice(),
     );
     Ok(())
 }
@@ -401,12 +418,13 @@ fn a_clut_is_written(rt: HostRuntime) -> Result<(), Fail> {
         entries: &entries,
     };
     write_segment(1, &clut, &mut out)?;
-    assert_eq!(rt;
+    same(
+        &rt,
         out.as_slice(),
         [
-            0x0F, 0x12, 0x00, 0x01, 0x00, 0x08, 0x04, 0xFF, 0x01, 0x9F, 0x51, 0xF0, 0x5A, 0xC0
+            0x0F, 0x12, 0x00, 0x01, 0x00, 0x08, 0x04, 0xFF, 0x01, 0x9F, 0x51, 0xF0, 0x5A, 0xC0,
         ]
-        .as_slice()
+        .as_slice(),
     );
     Ok(())
 }
@@ -430,13 +448,14 @@ fn an_object_is_written(rt: HostRuntime) -> Result<(), Fail> {
         bottom: &bottom,
     };
     write_segment(1, &SegmentOut::Object(object), &mut out)?;
-    assert_eq!(rt;
+    same(
+        &rt,
         out.as_slice(),
         [
             0x0F, 0x13, 0x00, 0x01, 0x00, 0x16, 0x00, 0x00, 0x01, 0x00, 0x08, 0x00, 0x07, 0x12,
             0x01, 0x00, 0x83, 0x02, 0x00, 0x00, 0xF0, 0x12, 0x00, 0x84, 0x03, 0x00, 0x00, 0xF0,
         ]
-        .as_slice()
+        .as_slice(),
     );
     Ok(())
 }

@@ -1,6 +1,7 @@
 ghost use Rattle.std.specs.Prelude.{◌≡◌, ◌^◌, ◌<◌, ◌≤◌, sum, IfOk};
 ghost use Rattle.schedule.specs.Slots.{IsLoad};
 
+use crate::same::same;
 use schedule::{Schedule, ScheduleFault};
 use std::alloc::{AllocError, Global};
 use std::test::Fail;
@@ -46,9 +47,9 @@ fn set_of_a_whole_buffer(rt: HostRuntime) -> Result<(), Fail> {
     let loads = [one_unit(rt.alloc(), 200_000, 24_576)?];
     let schedule = Schedule::make(rt.alloc(), &loads, 0, &Profile::of(ProfileName::Sd))?;
     let slots = schedule.slots_of(0);
-    assert_eq!(rt; slots.len(), 134);
-    assert_eq!(rt; slots.last(), Some(&133));
-    assert_eq!(rt; schedule.done(0), 118_341);
+    same(&rt, slots.len(), 134);
+    same(&rt, slots.last(), Some(&133));
+    same(&rt, schedule.done(0), 118_341);
     Ok(())
 }
 
@@ -56,12 +57,13 @@ fn set_of_a_whole_buffer(rt: HostRuntime) -> Result<(), Fail> {
 fn set_larger_than_the_buffer(rt: HostRuntime) -> Result<(), Fail> {
     let loads = [one_unit(rt.alloc(), 200_000, 24_577)?];
     let fault = Schedule::make(rt.alloc(), &loads, 0, &Profile::of(ProfileName::Sd)).err();
-    assert_eq!(rt;
+    same(
+        &rt,
         fault,
         Some(ScheduleFault::CodedFull {
             set: 0,
-            size: 24_577
-        })
+            size: 24_577,
+        }),
     );
     Ok(())
 }
@@ -72,16 +74,17 @@ fn set_done_in_time_or_late(rt: HostRuntime) -> Result<(), Fail> {
     let profile = Profile::of(ProfileName::Sd);
     let early = [one_unit(rt.alloc(), 184, 184)?];
     let schedule = Schedule::make(rt.alloc(), &early, 0, &profile)?;
-    assert_eq!(rt; schedule.done(0), 184);
+    same(&rt, schedule.done(0), 184);
     let late = [one_unit(rt.alloc(), 183, 184)?];
     let fault = Schedule::make(rt.alloc(), &late, 0, &profile).err();
-    assert_eq!(rt;
+    same(
+        &rt,
         fault,
         Some(ScheduleFault::Late {
             set: 0,
             done: 184,
-            pts: 183
-        })
+            pts: 183,
+        }),
     );
     Ok(())
 }
@@ -95,18 +98,18 @@ fn set_that_waits_for_room(rt: HostRuntime) -> Result<(), Fail> {
         one_unit(rt.alloc(), 400_000, 20_000)?,
     ];
     let schedule = Schedule::make(rt.alloc(), &loads, 0, &Profile::of(ProfileName::Sd))?;
-    assert_eq!(rt; schedule.all_slots().len(), 218);
+    same(&rt, schedule.all_slots().len(), 218);
     let first = schedule.slots_of(0);
-    assert_eq!(rt; first.len(), 109);
-    assert_eq!(rt; first[108], 108);
+    same(&rt, first.len(), 109);
+    same(&rt, first[108], 108);
     let second = schedule.slots_of(1);
-    assert_eq!(rt; second.len(), 109);
-    assert_eq!(rt; second[0], 109);
-    assert_eq!(rt; second[23], 132);
-    assert_eq!(rt; second[24], 137);
-    assert_eq!(rt; second[108], 221);
-    assert_eq!(rt; schedule.done(0), 96_140);
-    assert_eq!(rt; schedule.done(1), 320_000);
+    same(&rt, second.len(), 109);
+    same(&rt, second[0], 109);
+    same(&rt, second[23], 132);
+    same(&rt, second[24], 137);
+    same(&rt, second[108], 221);
+    same(&rt, schedule.done(0), 96_140);
+    same(&rt, schedule.done(1), 320_000);
     Ok(())
 }
 
@@ -121,10 +124,10 @@ fn set_in_three_units(rt: HostRuntime) -> Result<(), Fail> {
     let loads = [write_load(rt.alloc(), load, 60_014, &[60_090, 60_031, 60_037])?];
     let schedule = Schedule::make(rt.alloc(), &loads, 0, &Profile::of(ProfileName::Large))?;
     let slots = schedule.slots_of(0);
-    assert_eq!(rt; slots.len(), 981);
-    assert_eq!(rt; slots.first(), Some(&556));
-    assert_eq!(rt; slots.last(), Some(&1_536));
-    assert_eq!(rt; schedule.done(0), 350_798);
+    same(&rt, slots.len(), 981);
+    same(&rt, slots.first(), Some(&556));
+    same(&rt, slots.last(), Some(&1_536));
+    same(&rt, schedule.done(0), 350_798);
     Ok(())
 }
 
@@ -139,20 +142,22 @@ fn segment_too_long(rt: HostRuntime) -> Result<(), Fail> {
     };
     let loads = [write_load(rt.alloc(), load, 65_614, &[64, 65_631, 23])?];
     let large = Schedule::make(rt.alloc(), &loads, 0, &Profile::of(ProfileName::Large)).err();
-    assert_eq!(rt;
+    same(
+        &rt,
         large,
         Some(ScheduleFault::SegmentFull {
             set: 0,
-            longest: 65_614
-        })
+            longest: 65_614,
+        }),
     );
     let hd = Schedule::make(rt.alloc(), &loads, 0, &Profile::of(ProfileName::Hd)).err();
-    assert_eq!(rt;
+    same(
+        &rt,
         hd,
         Some(ScheduleFault::CodedFull {
             set: 0,
-            size: 65_718
-        })
+            size: 65_718,
+        }),
     );
     Ok(())
 }
@@ -167,6 +172,6 @@ fn segment_that_just_fits(rt: HostRuntime) -> Result<(), Fail> {
     };
     let loads = [write_load(rt.alloc(), load, 65_524, &[65_541, 23])?];
     let schedule = Schedule::make(rt.alloc(), &loads, 0, &Profile::of(ProfileName::Large))?;
-    assert_eq!(rt; schedule.slots_of(0).len(), 358);
+    same(&rt, schedule.slots_of(0).len(), 358);
     Ok(())
 }

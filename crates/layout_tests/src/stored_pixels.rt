@@ -1,3 +1,4 @@
+use crate::same::same;
 use pixel_store::{Store, StoreFull};
 use std::test::Fail;
 use sub_base::{Depth, NoMemory};
@@ -7,26 +8,28 @@ use sub_base::{Depth, NoMemory};
 fn full_store(rt: HostRuntime) -> Result<(), Fail> {
     let mut store = Store::make(rt.alloc(), 4)?;
     let _slot = store.place(8, 2, Depth::Two)?;
-    assert_eq!(rt; store.free(), 0);
-    assert_eq!(rt;
+    same(&rt, store.free(), 0);
+    same(
+        &rt,
         store.place(1, 1, Depth::Two),
-        Err(StoreFull { need: 1, free: 0 })
+        Err(StoreFull { need: 1, free: 0 }),
     );
     store.reset();
-    assert_eq!(rt; store.free(), 4);
-    assert_eq!(rt;
+    same(&rt, store.free(), 4);
+    same(
+        &rt,
         store.place(9, 2, Depth::Two),
-        Err(StoreFull { need: 6, free: 4 })
+        Err(StoreFull { need: 6, free: 4 }),
     );
     let _slot = store.place(5, 1, Depth::Four)?;
-    assert_eq!(rt; store.free(), 1);
+    same(&rt, store.free(), 1);
     Ok(())
 }
 
 /// A store of more bytes than any memory has is not made.
 #[test]
 fn no_memory(rt: HostRuntime) -> Result<(), Fail> {
-    assert_eq!(rt; Store::make(rt.alloc(), u64::MAX).err(), Some(NoMemory));
+    same(&rt, Store::make(rt.alloc(), u64::MAX).err(), Some(NoMemory));
     Ok(())
 }
 
@@ -36,10 +39,10 @@ fn run_of_three(rt: HostRuntime) -> Result<(), Fail> {
     let mut store = Store::make(rt.alloc(), 4)?;
     let slot = store.place(8, 2, Depth::Two)?;
     store.paint_run(slot, 1, 0, 3, 2);
-    assert_eq!(rt; store.packed_row(slot, 0), [0x2A, 0x00].as_slice());
-    assert_eq!(rt; store.packed_row(slot, 1), [0x00, 0x00].as_slice());
-    assert_eq!(rt; store.code_at(slot, 3, 0), 2);
-    assert_eq!(rt; store.code_at(slot, 4, 0), 0);
+    same(&rt, store.packed_row(slot, 0), [0x2A, 0x00].as_slice());
+    same(&rt, store.packed_row(slot, 1), [0x00, 0x00].as_slice());
+    same(&rt, store.code_at(slot, 3, 0), 2);
+    same(&rt, store.code_at(slot, 4, 0), 0);
     Ok(())
 }
 
@@ -53,10 +56,14 @@ fn filled_rows(rt: HostRuntime) -> Result<(), Fail> {
     store.fill(two, 3);
     store.fill(four, 10);
     store.fill(eight, 200);
-    assert_eq!(rt; store.packed_row(two, 0), [0xFC].as_slice());
-    assert_eq!(rt; store.packed_row(four, 0), [0xAA, 0xA0].as_slice());
-    assert_eq!(rt; store.packed_row(four, 1), [0xAA, 0xA0].as_slice());
-    assert_eq!(rt; store.packed_row(eight, 0), [0xC8, 0xC8, 0xC8].as_slice());
+    same(&rt, store.packed_row(two, 0), [0xFC].as_slice());
+    same(&rt, store.packed_row(four, 0), [0xAA, 0xA0].as_slice());
+    same(&rt, store.packed_row(four, 1), [0xAA, 0xA0].as_slice());
+    same(
+        &rt,
+        store.packed_row(eight, 0),
+        [0xC8, 0xC8, 0xC8].as_slice(),
+    );
     Ok(())
 }
 
@@ -71,12 +78,13 @@ fn clipped_runs(rt: HostRuntime) -> Result<(), Fail> {
     store.paint_run(small, 3, 1, 5, 1);
     store.paint_run(small, 0, 2, 3, 1);
     store.paint_run(small, u32::MAX, 1, u32::MAX, 1);
-    assert_eq!(rt;
+    same(
+        &rt,
         store.packed_row(wide, 0),
-        [0x15, 0x55, 0x55, 0x40].as_slice()
+        [0x15, 0x55, 0x55, 0x40].as_slice(),
     );
-    assert_eq!(rt; store.packed_row(small, 0), [0x00, 0x70].as_slice());
-    assert_eq!(rt; store.packed_row(small, 1), [0x00, 0x00].as_slice());
+    same(&rt, store.packed_row(small, 0), [0x00, 0x70].as_slice());
+    same(&rt, store.packed_row(small, 1), [0x00, 0x00].as_slice());
     Ok(())
 }
 
@@ -88,9 +96,9 @@ fn placed_again(rt: HostRuntime) -> Result<(), Fail> {
     store.fill(first, 255);
     store.reset();
     let second = store.place(2, 2, Depth::Four)?;
-    assert_eq!(rt; store.packed_row(second, 1), [0x00].as_slice());
+    same(&rt, store.packed_row(second, 1), [0x00].as_slice());
     store.paint_run(second, 1, 1, 1, 15);
-    assert_eq!(rt; store.packed_row(second, 0), [0x00].as_slice());
-    assert_eq!(rt; store.packed_row(second, 1), [0x0F].as_slice());
+    same(&rt, store.packed_row(second, 0), [0x00].as_slice());
+    same(&rt, store.packed_row(second, 1), [0x0F].as_slice());
     Ok(())
 }

@@ -1,3 +1,4 @@
+use crate::same::same;
 use code_strings::{Token, read_token, string_end};
 use sub_base::Depth;
 
@@ -14,7 +15,7 @@ fn ends_of_eight_bit_strings(rt: HostRuntime) {
         ([0x01, 0x02, 0x03, 0x04, 0x05, 0x06, 0x07, 0x00], None),
         ([0x01, 0x02, 0x03, 0x04, 0x05, 0x06, 0x00, 0x80], None),
     ] {
-        assert_eq!(rt; end_in(bytes, Depth::Eight), end);
+        same(&rt, end_in(bytes, Depth::Eight), end);
     }
 }
 
@@ -27,7 +28,7 @@ fn ends_of_four_bit_strings(rt: HostRuntime) {
         ([0x0E, 0x00, 0x07, 0x0C, 0x0D, 0x09, 0x20, 0x0A], Some(8)),
         ([0x12, 0x34, 0x56, 0x78, 0x9A, 0xBC, 0xDE, 0x0F], None),
     ] {
-        assert_eq!(rt; end_in(bytes, Depth::Four), end);
+        same(&rt, end_in(bytes, Depth::Four), end);
     }
 }
 
@@ -39,7 +40,7 @@ fn ends_of_two_bit_strings(rt: HostRuntime) {
         ([0x08, 0x02, 0x0C, 0x00, 0x41, 0x04, 0x10, 0x3F], Some(4)),
         ([0x55, 0x55, 0x55, 0x55, 0x55, 0x55, 0x55, 0x55], None),
     ] {
-        assert_eq!(rt; end_in(bytes, Depth::Two), end);
+        same(&rt, end_in(bytes, Depth::Two), end);
     }
 }
 
@@ -49,9 +50,10 @@ fn a_code_at_a_place(rt: HostRuntime) {
         length: 25,
         code: 3,
     };
-    assert_eq!(rt;
+    same(
+        &rt,
         read_token(&[0x10, 0xF0, 0x03], 4, Depth::Four),
-        Some((long, 24))
+        Some((long, 24)),
     );
-    assert_eq!(rt; read_token(&[0x10, 0xF0], 4, Depth::Four), None);
+    same(&rt, read_token(&[0x10, 0xF0], 4, Depth::Four), None);
 }

@@ -1,5 +1,6 @@
 ghost use Rattle.std.specs.Prelude.{◌<◌, ◌^◌};
 
+use crate::same::same;
 use psi_tables::{Section, SectionFault, Service, crc, read_section, write_pat, write_pmt};
 use std::test::Fail;
 
@@ -47,41 +48,49 @@ const FRENCH: [u8; 31] = [
 
 #[test]
 fn the_check_value_of_the_crc(rt: HostRuntime) {
-    assert_eq!(rt; crc(b"123456789"), 0x0376_E6E7);
-    assert_eq!(rt; crc(&[]), 0xFFFF_FFFF);
-    assert_eq!(rt; crc(&PMT), 0);
+    same(&rt, crc(b"123456789"), 0x0376_E6E7);
+    same(&rt, crc(&[]), 0xFFFF_FFFF);
+    same(&rt, crc(&PMT), 0);
 }
 
 #[test]
 fn tables_name_services(rt: HostRuntime) -> Result<(), Fail> {
     let pat = read_section(&PAT)?;
-    assert_eq!(rt;
+    same(
+        &rt,
         pat,
         Section::Pat {
             stream: 1,
-            entries: &PAT[8..12]
-        }
+            entries: &PAT[8..12],
+        },
     );
-    assert_eq!(rt;
+    same(
+        &rt,
         (pat.pmt_of(1), pat.pmt_of(2), pat.subtitles_of(1)),
-        (Some(4096), None, None)
+        (Some(4096), None, None),
     );
     let plain = read_section(&PLAIN_PAT)?;
-    assert_eq!(rt; (plain.pmt_of(0), plain.pmt_of(7)), (Some(16), Some(0x123)));
+    same(
+        &rt,
+        (plain.pmt_of(0), plain.pmt_of(7)),
+        (Some(16), Some(0x123)),
+    );
 
     let pmt = read_section(&PMT)?;
-    assert_eq!(rt;
+    same(
+        &rt,
         pmt,
         Section::Pmt {
             number: 258,
-            streams: &PMT[18..85]
-        }
+            streams: &PMT[18..85],
+        },
     );
-    assert_eq!(rt;
+    same(
+        &rt,
         (pmt.subtitles_of(258), pmt.subtitles_of(1), pmt.pmt_of(258)),
-        (Some(260), None, None)
+        (Some(260), None, None),
     );
-    assert_eq!(rt; read_section(&SHORT_PMT)?.subtitles_of(5), Some(0x1FFE));
+    same(&rt, read_section(&SHORT_PMT)?.subtitles_of(5), Some(0x1FFE));
     Ok(())
 }
 
@@ -210,7 +219,7 @@ fn each_fault_comes_by_its_test(rt: HostRuntime) {
         ),
     ];
     for (bytes, fault) in rows {
-        assert_eq!(rt; read_section(bytes), Err(fault));
+        same(&rt, read_section(bytes), Err(fault));
     }
 }
 
@@ -252,7 +261,7 @@ fn the_first_fault_is_told(rt: HostRuntime) {
         ),
     ];
     for (bytes, fault) in rows {
-        assert_eq!(rt; read_section(bytes), Err(fault));
+        same(&rt, read_section(bytes), Err(fault));
     }
 }
 
@@ -262,14 +271,16 @@ fn the_longest_section(rt: HostRuntime) {
     bytes[1] = 0xB3;
     bytes[2] = 0xFD;
     // Its length is taken, so that the CRC is looked at.
-    assert_eq!(rt;
+    same(
+        &rt,
         matches!(read_section(&bytes), Err(SectionFault::BadCrc { .. })),
-        true
+        true,
     );
     bytes[2] = 0xFE;
-    assert_eq!(rt;
+    same(
+        &rt,
         read_section(&bytes),
-        Err(SectionFault::BadLength { length: 1022 })
+        Err(SectionFault::BadLength { length: 1022 }),
     );
 }
 
@@ -302,8 +313,8 @@ fn tables_are_written_behind_what_was_there(rt: HostRuntime) -> Result<(), Fail>
     let mut out = Vec::new(rt.alloc());
     out.extend_from_slice(&PAT)?;
     write_pat(&services, &mut out)?;
-    assert_eq!(rt; &out[..16], PAT.as_slice());
-    assert_eq!(rt; &out[16..], EIGHT.as_slice());
+    same(&rt, &out[..16], PAT.as_slice());
+    same(&rt, &out[16..], EIGHT.as_slice());
 
     let french = Service {
         number: 65_535,
@@ -314,6 +325,6 @@ fn tables_are_written_behind_what_was_there(rt: HostRuntime) -> Result<(), Fail>
     };
     out.clear();
     write_pmt(&french, &mut out)?;
-    assert_eq!(rt; out.as_slice(), FRENCH.as_slice());
+    same(&rt, out.as_slice(), FRENCH.as_slice());
     Ok(())
 }

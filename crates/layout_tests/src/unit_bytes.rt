@@ -1,3 +1,4 @@
+use crate::same::{same, same_at};
 use pes_packets::{PesFault, read_pes, unit_lengths, write_pes, write_unit};
 use std::test::Fail;
 
@@ -11,10 +12,11 @@ const SECOND_UNIT: [u8; 31] = [
 #[test]
 fn worked_packet_is_read_and_written(rt: HostRuntime) -> Result<(), Fail> {
     let packet = read_pes(&SECOND_UNIT)?;
-    assert_eq!(rt; packet.pts, 180_000);
-    assert_eq!(rt;
+    same(&rt, packet.pts, 180_000);
+    same(
+        &rt,
         packet.segments.to_vec(rt.alloc())?.as_slice(),
-        &SECOND_UNIT[16..]
+        &SECOND_UNIT[16..],
     );
 
     let mut out = Vec::new(rt.alloc());
@@ -23,12 +25,12 @@ fn worked_packet_is_read_and_written(rt: HostRuntime) -> Result<(), Fail> {
         &[0x20, 0x00, 0x0F, 0x80, 0x00, 0x01, 0x00, 0x00, 0xFF],
         &mut out,
     )?;
-    assert_eq!(rt; out.len(), 23);
-    assert_eq!(rt; read_pes(&out)?.pts, 180_000);
+    same(&rt, out.len(), 23);
+    same(&rt, read_pes(&out)?.pts, 180_000);
 
     let mut unit = Vec::new(rt.alloc());
     write_unit(180_000, &SECOND_UNIT[16..30], &mut unit)?;
-    assert_eq!(rt; unit.as_slice(), SECOND_UNIT.as_slice());
+    same(&rt, unit.as_slice(), SECOND_UNIT.as_slice());
     Ok(())
 }
 
@@ -54,12 +56,13 @@ fn one_wrong_byte_is_the_first_fault(rt: HostRuntime) -> Result<(), Fail> {
         if let Some(changed) = bytes.get_mut(place) {
             *changed = byte;
         }
-        assert_eq!(rt; read_pes(&bytes).err(), Some(fault), "byte {place}");
+        same_at(&rt, place, read_pes(&bytes).err(), Some(fault));
     }
     for length in 0..6 {
-        assert_eq!(rt;
+        same(
+            &rt,
             read_pes(SECOND_UNIT.get(..length).unwrap_or(&[])).err(),
-            Some(PesFault::NoPrefix)
+            Some(PesFault::NoPrefix),
         );
     }
     Ok(())
@@ -71,17 +74,18 @@ fn one_wrong_byte_is_the_first_fault(rt: HostRuntime) -> Result<(), Fail> {
 fn segments_are_shared_out_to_units(rt: HostRuntime) -> Result<(), Fail> {
     let mut out = Vec::new(rt.alloc());
     unit_lengths(&[], &mut out)?;
-    assert_eq!(rt; out.len(), 0);
+    same(&rt, out.len(), 0);
     unit_lengths(&[11, 8, 6], &mut out)?;
-    assert_eq!(rt; out.as_slice(), [42].as_slice());
+    same(&rt, out.as_slice(), [42].as_slice());
     unit_lengths(&[65_507, 11, 6], &mut out)?;
-    assert_eq!(rt; out.as_slice(), [42, 65_541].as_slice());
+    same(&rt, out.as_slice(), [42, 65_541].as_slice());
     unit_lengths(&[65_507, 12, 6], &mut out)?;
-    assert_eq!(rt; out.as_slice(), [42, 65_541, 65_536, 23].as_slice());
+    same(&rt, out.as_slice(), [42, 65_541, 65_536, 23].as_slice());
     unit_lengths(&[47, 65_614, 6], &mut out)?;
-    assert_eq!(rt;
+    same(
+        &rt,
         out.as_slice(),
-        [42, 65_541, 65_536, 23, 64, 65_631, 23].as_slice()
+        [42, 65_541, 65_536, 23, 64, 65_631, 23].as_slice(),
     );
     Ok(())
 }

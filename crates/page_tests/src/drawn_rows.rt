@@ -2,6 +2,7 @@ ghost use Rattle.std.specs.Prelude.{◌≡◌, true};
 ghost use Rattle.decoder_model.specs.declared.set_end.SetEnd.TheVariants.{Shown};
 
 use crate::painted_objects::{TWO_BITS, put_object, put_region};
+use crate::same::{same, same_at};
 use crate::taken_sets::{put, sd_core};
 use page_core::{Core, Scene, SetEnd};
 use std::process::Abort;
@@ -85,6 +86,12 @@ const PAGE: &[u8] = &[15, 16, 0, 1, 0, 8, 10, 8, 0, 0, 0, 0, 0, 0];
 /// are painted as a string, and the packed row and the row of the picture are looked at.
 #[test]
 fn colours_of_packed_codes(rt: HostRuntime) -> Result<(), Fail> {
+    let mut core = sd_core(rt.alloc())?;
+    colours_of_packed_codes_in(&rt, &mut core);
+    Ok(())
+}
+
+fn colours_of_packed_codes_in<R: Abort>(rt: &R, core: &mut Core) {
     let two: [u8; 5] = [0x10, 0x6C, 0x50, 0x00, 0xF0];
     let four: [u8; 6] = [0x11, 0x19, 0x0C, 0x19, 0x00, 0xF0];
     let eight: [u8; 9] = [0x12, 0x01, 0x00, 0x02, 0x01, 0x01, 0x00, 0x00, 0xF0];
@@ -111,30 +118,20 @@ fn colours_of_packed_codes(rt: HostRuntime) -> Result<(), Fail> {
             [FAINT_RED, CLEAR, CLEAR, FAINT_RED, FAINT_RED],
         ),
     ];
-    let mut core = sd_core(rt.alloc())?;
     for pts in 0..rows.len() {
         let (depth, clut, object, packed, colours) = rows[pts];
-        let end = take_drawn(
-            &mut core,
-            pts as u32,
-            &[LINE, PAGE],
-            [5, 1],
-            clut,
-            depth,
-            object,
-        );
+        let end = take_drawn(core, pts as u32, &[LINE, PAGE], [5, 1], clut, depth, object);
         match end {
             SetEnd::Shown => {
                 let scene = core.scene();
-                has_line(&rt, &scene, 0, Some(packed));
+                has_line(rt, &scene, 0, Some(packed));
                 let mut row = [CLEAR; 5];
-                assert!(rt; is_drawn(&scene, 0, &mut row), "set {pts}");
-                assert_eq!(rt; row, colours, "set {pts}");
+                same_at(rt, pts, is_drawn(&scene, 0, &mut row), true);
+                same_at(rt, pts, row, colours);
             }
-            _ => assert_eq!(rt; end, SetEnd::Shown, "set {pts}"),
+            _ => same_at(rt, pts, end, SetEnd::Shown),
         }
     }
-    Ok(())
 }
 
 /// Makes a row the row y of a picture, where that has so many columns and the row.
@@ -148,7 +145,7 @@ fn is_drawn(scene: &Scene<'_>, y: u32, row: &mut [Colour]) -> bool {
 
 /// A line of region 0 has these packed bytes.
 fn has_line<R: Abort>(rt: &R, scene: &Scene<'_>, line: u16, packed: Option<&[u8]>) {
-    assert_eq!(rt; scene.packed_row(0, line), packed, "line {line}");
+    same_at(rt, line, scene.packed_row(0, line), packed);
 }
 
 /// A display of twelve columns and six rows, whose window has columns 2 to 8 and rows 1 to 3.
@@ -163,13 +160,18 @@ const TWO_PLACES: &[u8] = &[
 /// of eight by three pixels has its corner at (3, 2), and, drawn before it, at (2, 2).
 #[test]
 fn rows_of_a_window(rt: HostRuntime) -> Result<(), Fail> {
+    let mut core = sd_core(rt.alloc())?;
+    rows_of_a_window_in(&rt, &mut core);
+    Ok(())
+}
+
+fn rows_of_a_window_in<R: Abort>(rt: &R, core: &mut Core) {
     let nothing = [CLEAR; 12];
     let drawn = [
         CLEAR, CLEAR, WHITE, WHITE, BLACK, GREY, BLACK, BLACK, BLACK, CLEAR, CLEAR, CLEAR,
     ];
-    let mut core = sd_core(rt.alloc())?;
     let end = take_drawn(
-        &mut core,
+        core,
         0,
         &[WINDOW, TWO_PLACES],
         [8, 3],
@@ -182,13 +184,12 @@ fn rows_of_a_window(rt: HostRuntime) -> Result<(), Fail> {
             let scene = core.scene();
             for (y, wanted) in [(1, nothing), (2, drawn), (3, drawn), (4, nothing)] {
                 let mut row = [CLEAR; 12];
-                assert!(rt; is_drawn(&scene, y, &mut row), "row {y}");
-                assert_eq!(rt; row, wanted, "row {y}");
+                same_at(rt, y, is_drawn(&scene, y, &mut row), true);
+                same_at(rt, y, row, wanted);
             }
-            has_line(&rt, &scene, 0, Some(&[0x6E, 0xAA]));
-            has_line(&rt, &scene, 3, None);
+            has_line(rt, &scene, 0, Some(&[0x6E, 0xAA]));
+            has_line(rt, &scene, 3, None);
         }
-        _ => assert_eq!(rt; end, SetEnd::Shown),
+        _ => same(rt, end, SetEnd::Shown),
     }
-    Ok(())
 }

@@ -3,6 +3,10 @@
 //! tests, so that the page memory is not proved again for them.
 #![tactic(auto)]
 
+// A comparison as a call.
+#[cfg(test)]
+mod same;
+
 // Sets, the first fault of each, and what earlier sets of an epoch leave.
 #[cfg(test)]
 mod room_left;

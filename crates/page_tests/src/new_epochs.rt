@@ -1,6 +1,8 @@
+use crate::same::{same, same_at};
 use crate::taken_sets::{sd_core, take};
 use decoder_model::{SetEnd, SetFault};
 use page_core::Core;
+use std::process::Abort;
 use std::test::Fail;
 use stream_syntax::{CodeFault, CodeKind, SegmentFault, SegmentKind};
 use sub_base::{Profile, ProfileName};
@@ -10,38 +12,48 @@ use sub_base::{Profile, ProfileName};
 #[test]
 #[tactic(auto, using(page_core::proofs::Counts::ProfileNodes::few_nodes))]
 fn lifted_times(rt: HostRuntime) -> Result<(), Fail> {
-    let sd = Profile::of(ProfileName::Sd);
+    let mut core = Core::make(rt.alloc(), &Profile::of(ProfileName::Sd), 1, 100)?;
+    lifted_times_in(&rt, &mut core);
+    Ok(())
+}
+
+fn lifted_times_in<R: Abort>(rt: &R, core: &mut Core) {
     let long = SetFault::SetTooLong { size: 24_577 };
-    let mut core = Core::make(rt.alloc(), &sd, 1, 100)?;
     // The first set is lifted from the anchor on.
-    assert_eq!(rt; core.lift(100), Some(100));
-    assert_eq!(rt; core.lift(99), Some(8_589_934_691));
-    assert_eq!(rt; core.refuse_set(8_589_934_590, long), SetEnd::Broken(long));
+    same(rt, core.lift(100), Some(100));
+    same(rt, core.lift(99), Some(8_589_934_691));
+    same(
+        rt,
+        core.refuse_set(8_589_934_590, long),
+        SetEnd::Broken(long),
+    );
     // The next are less than 2 to the 32 ahead of the last kept one.
-    assert_eq!(rt; core.lift(8_589_934_590), None);
-    assert_eq!(rt; core.lift(8_589_934_591), Some(8_589_934_591));
-    assert_eq!(rt; core.lift(5), Some(8_589_934_597));
-    assert_eq!(rt; core.lift(4_294_967_293), Some(12_884_901_885));
-    assert_eq!(rt; core.lift(4_294_967_294), None);
-    assert_eq!(rt;
+    same(rt, core.lift(8_589_934_590), None);
+    same(rt, core.lift(8_589_934_591), Some(8_589_934_591));
+    same(rt, core.lift(5), Some(8_589_934_597));
+    same(rt, core.lift(4_294_967_293), Some(12_884_901_885));
+    same(rt, core.lift(4_294_967_294), None);
+    same(
+        rt,
         core.refuse_set(8_589_934_589, long),
         SetEnd::NotLater {
-            last: 8_589_934_590
-        }
+            last: 8_589_934_590,
+        },
     );
     core.lose();
-    assert_eq!(rt; core.lift(8_589_934_590), None);
-    assert_eq!(rt;
+    same(rt, core.lift(8_589_934_590), None);
+    same(
+        rt,
         core.refuse_set(0, SetFault::NoPage),
-        SetEnd::Broken(SetFault::NoPage)
+        SetEnd::Broken(SetFault::NoPage),
     );
-    assert_eq!(rt;
+    same(
+        rt,
         core.refuse_set(0, long),
         SetEnd::NotLater {
-            last: 8_589_934_592
-        }
+            last: 8_589_934_592,
+        },
     );
-    Ok(())
 }
 
 /// All memory is free before the first set, after a loss and after a broken set.
@@ -56,13 +68,17 @@ fn free_memory(rt: HostRuntime) -> Result<(), Fail> {
     ];
     for (name, nodes, pixels) in rows {
         let mut core = Core::make(rt.alloc(), &Profile::of(name), 7, 0)?;
-        assert_eq!(rt; (core.free_nodes(), core.free_pixels()), (nodes, pixels));
-        core.lose();
-        assert_eq!(rt; (core.free_nodes(), core.free_pixels()), (nodes, pixels));
-        let _ = core.refuse_set(1, SetFault::NoPage);
-        assert_eq!(rt; (core.free_nodes(), core.free_pixels()), (nodes, pixels));
+        free_memory_in(&rt, &mut core, (nodes, pixels));
     }
     Ok(())
+}
+
+fn free_memory_in<R: Abort>(rt: &R, core: &mut Core, all: (u32, u64)) {
+    same(rt, (core.free_nodes(), core.free_pixels()), all);
+    core.lose();
+    same(rt, (core.free_nodes(), core.free_pixels()), all);
+    let _ = core.refuse_set(1, SetFault::NoPage);
+    same(rt, (core.free_nodes(), core.free_pixels()), all);
 }
 
 // Segments of page 1: a mode change that lists region 1, an acquisition that lists none, regions 1
@@ -94,6 +110,12 @@ const END: &[u8] = &[15, 128, 0, 1, 0, 0];
 /// by its page in an epoch of its own.
 #[test]
 fn segments_of_sets(rt: HostRuntime) -> Result<(), Fail> {
+    let mut core = sd_core(rt.alloc())?;
+    segments_of_sets_in(&rt, &mut core);
+    Ok(())
+}
+
+fn segments_of_sets_in<R: Abort>(rt: &R, core: &mut Core) {
     let broken = |fault| SetEnd::Broken(fault);
     let twice = |kind, id| SetEnd::Broken(SetFault::TwiceInSet { kind, id });
     let rows: [(&[&[u8]], SetEnd); 9] = [
@@ -122,13 +144,11 @@ fn segments_of_sets(rt: HostRuntime) -> Result<(), Fail> {
         ),
         (&[PAGE, STUFFING], broken(SetFault::NoSuchRegion { id: 1 })),
     ];
-    let mut core = sd_core(rt.alloc())?;
     for pts in 0..rows.len() {
         let (parts, end) = rows[pts];
         core.lose();
-        assert_eq!(rt; take(&mut core, pts as u32, parts), end, "set {pts}");
+        same_at(rt, pts, take(core, pts as u32, parts), end);
     }
-    Ok(())
 }
 
 // Regions of 8 bits: 2 of 720 by 576, 2 of 720 by 80 and 3 of 720 by 40 pixels.
@@ -141,6 +161,12 @@ const MORE: &[u8] = &[15, 17, 0, 1, 0, 10, 3, 8, 2, 208, 0, 40, 108, 0, 0, 0];
 /// The first fault of a set by an epoch that has nothing before it.
 #[test]
 fn sets_in_a_new_epoch(rt: HostRuntime) -> Result<(), Fail> {
+    let mut core = sd_core(rt.alloc())?;
+    sets_in_a_new_epoch_in(&rt, &mut core);
+    Ok(())
+}
+
+fn sets_in_a_new_epoch_in<R: Abort>(rt: &R, core: &mut Core) {
     let broken = |fault| SetEnd::Broken(fault);
     let full = |need, free| SetEnd::Broken(SetFault::PixelFull { need, free });
     let rows: [(&[&[u8]], SetEnd); 7] = [
@@ -158,13 +184,11 @@ fn sets_in_a_new_epoch(rt: HostRuntime) -> Result<(), Fail> {
         (&[NO_ENTRY, LINES, MORE], full(28_800, 24_320)),
         (&[NO_ENTRY, MORE, LINES], full(57_600, 53_120)),
     ];
-    let mut core = sd_core(rt.alloc())?;
     for pts in 0..rows.len() {
         let (parts, end) = rows[pts];
         core.lose();
-        assert_eq!(rt; take(&mut core, pts as u32, parts), end, "set {pts}");
+        same_at(rt, pts, take(core, pts as u32, parts), end);
     }
-    Ok(())
 }
 
 // Region 1 with two listings. CLUT 7 of version 2 with entry 1 in the tables of 2 and 4 bits,
@@ -187,6 +211,16 @@ const OTHER: &[u8] = &[15, 18, 0, 1, 0, 8, 8, 47, 1, 193, 81, 240, 90, 192];
 /// them, and tells them again.
 #[test]
 fn nodes_of_sets(rt: HostRuntime) -> Result<(), Fail> {
+    let none = Profile {
+        nodes: 0,
+        ..Profile::of(ProfileName::Sd)
+    };
+    let mut core = Core::make(rt.alloc(), &none, 1, 0)?;
+    nodes_of_sets_in(&rt, &mut core);
+    Ok(())
+}
+
+fn nodes_of_sets_in<R: Abort>(rt: &R, core: &mut Core) {
     let full = |size| SetEnd::Broken(SetFault::CompositionFull { size });
     let rows: [(&[&[u8]], SetEnd); 10] = [
         (&[NO_ENTRY, OBJECT, END], SetEnd::Shown),
@@ -200,26 +234,26 @@ fn nodes_of_sets(rt: HostRuntime) -> Result<(), Fail> {
         (&[CLUT, OTHER, NO_ENTRY], full(6)),
         (&[FIVE, NEXT, CLUT, NO_ENTRY], full(5)),
     ];
-    let none = Profile {
-        nodes: 0,
-        ..Profile::of(ProfileName::Sd)
-    };
-    let mut core = Core::make(rt.alloc(), &none, 1, 0)?;
     let mut pts = 0u32;
     for (parts, end) in rows {
         core.lose();
-        assert_eq!(rt; take(&mut core, pts, parts), end, "set {pts}");
+        same_at(rt, pts, take(core, pts, parts), end);
         // What was counted is not known any more.
         pts = pts.wrapping_add(1);
-        assert_eq!(rt; take(&mut core, pts, parts), end, "set {pts}");
+        same_at(rt, pts, take(core, pts, parts), end);
         pts = pts.wrapping_add(1);
     }
-    Ok(())
 }
 
 /// The nodes that CLUT segments leave free: one whose version is known takes none.
 #[test]
 fn nodes_of_cluts(rt: HostRuntime) -> Result<(), Fail> {
+    let mut core = sd_core(rt.alloc())?;
+    nodes_of_cluts_in(&rt, &mut core);
+    Ok(())
+}
+
+fn nodes_of_cluts_in<R: Abort>(rt: &R, core: &mut Core) {
     let rows: [(&[&[u8]], u32); 5] = [
         (&[NO_ENTRY, CLUT], 509),
         (&[NO_ENTRY, FIVE], 509),
@@ -227,21 +261,15 @@ fn nodes_of_cluts(rt: HostRuntime) -> Result<(), Fail> {
         (&[NO_ENTRY, FIVE], 508),
         (&[NO_ENTRY, OTHER, NEXT, FIVE], 504),
     ];
-    let mut core = sd_core(rt.alloc())?;
     for pts in 0..rows.len() {
         let (parts, free) = rows[pts];
-        let end = take(&mut core, pts as u32, parts);
-        assert_eq!(rt;
-            (end, core.free_nodes()),
-            (SetEnd::Shown, free),
-            "set {pts}"
-        );
+        let end = take(core, pts as u32, parts);
+        same_at(rt, pts, (end, core.free_nodes()), (SetEnd::Shown, free));
     }
     core.lose();
-    assert_eq!(rt; core.free_nodes(), 512);
-    assert_eq!(rt; take(&mut core, 5, &[NO_ENTRY, CLUT]), SetEnd::Shown);
-    assert_eq!(rt; core.free_nodes(), 509);
-    Ok(())
+    same(rt, core.free_nodes(), 512);
+    same(rt, take(core, 5, &[NO_ENTRY, CLUT]), SetEnd::Shown);
+    same(rt, core.free_nodes(), 509);
 }
 
 // Pages without entries: a mode change, and one of state normal.
@@ -253,32 +281,28 @@ const NORMAL: &[u8] = &[15, 16, 0, 1, 0, 2, 10, 0];
 /// set with a CLUT of three nodes, which are free again where an epoch begins.
 #[test]
 fn epochs_begin_and_go_on(rt: HostRuntime) -> Result<(), Fail> {
+    let mut core = sd_core(rt.alloc())?;
+    epochs_begin_and_go_on_in(&rt, &mut core);
+    Ok(())
+}
+
+fn epochs_begin_and_go_on_in<R: Abort>(rt: &R, core: &mut Core) {
     let rows = [
         (MODE_CHANGE, SetEnd::Shown, 512),
         (NO_ENTRY, SetEnd::Shown, 509),
         (NORMAL, SetEnd::Waiting, 509),
     ];
-    let mut core = sd_core(rt.alloc())?;
     let mut pts = 0u32;
     for (page, unknown, free) in rows {
         core.lose();
-        let end = take(&mut core, pts, &[page]);
-        assert_eq!(rt; (end, core.free_nodes()), (unknown, 512), "set {pts}");
+        let end = take(core, pts, &[page]);
+        same_at(rt, pts, (end, core.free_nodes()), (unknown, 512));
         pts = pts.wrapping_add(1);
-        let begun = take(&mut core, pts, &[MODE_CHANGE, CLUT]);
-        assert_eq!(rt;
-            (begun, core.free_nodes()),
-            (SetEnd::Shown, 509),
-            "set {pts}"
-        );
+        let begun = take(core, pts, &[MODE_CHANGE, CLUT]);
+        same_at(rt, pts, (begun, core.free_nodes()), (SetEnd::Shown, 509));
         pts = pts.wrapping_add(1);
-        let known = take(&mut core, pts, &[page]);
-        assert_eq!(rt;
-            (known, core.free_nodes()),
-            (SetEnd::Shown, free),
-            "set {pts}"
-        );
+        let known = take(core, pts, &[page]);
+        same_at(rt, pts, (known, core.free_nodes()), (SetEnd::Shown, free));
         pts = pts.wrapping_add(1);
     }
-    Ok(())
 }

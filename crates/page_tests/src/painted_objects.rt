@@ -1,6 +1,7 @@
 ghost use Rattle.std.specs.Prelude.{◌≡◌, true};
 ghost use Rattle.decoder_model.specs.declared.set_end.SetEnd.TheVariants.{Shown};
 
+use crate::same::same_at;
 use crate::taken_sets::{in_segment, put, sd_core};
 use page_core::{Core, SetEnd};
 use std::process::Abort;
@@ -115,14 +116,10 @@ fn is_painted<R: Abort>(rt: &R, core: &mut Core, pts: u32, case: &Painted<'_>) {
         SetEnd::Shown => {
             let scene = core.scene();
             for y in 0..3u16 {
-                assert_eq!(rt;
-                    scene.packed_row(0, y),
-                    Some(case.rows[y as usize]),
-                    "set {pts}, row {y}"
-                );
+                same_at(rt, y, scene.packed_row(0, y), Some(case.rows[y as usize]));
             }
         }
-        end => assert_eq!(rt; end, SetEnd::Shown, "set {pts}"),
+        end => same_at(rt, pts, end, SetEnd::Shown),
     }
 }
 
@@ -131,6 +128,11 @@ fn is_painted<R: Abort>(rt: &R, core: &mut Core, pts: u32, case: &Painted<'_>) {
 #[test]
 fn strings_of_each_depth(rt: HostRuntime) -> Result<(), Fail> {
     let mut core = sd_core(rt.alloc())?;
+    strings_of_each_depth_in(&rt, &mut core);
+    Ok(())
+}
+
+fn strings_of_each_depth_in<R: Abort>(rt: &R, core: &mut Core) {
     let mut pts = 0u32;
     for (depth, top, painted, below) in [
         (
@@ -179,15 +181,20 @@ fn strings_of_each_depth(rt: HostRuntime) -> Result<(), Fail> {
             y: 0,
             rows: [painted, painted, below],
         };
-        is_painted(&rt, &mut core, pts, &case);
+        is_painted(rt, core, pts, &case);
         pts = pts.wrapping_add(1);
     }
-    Ok(())
 }
 
 /// Strings that are deeper than the region, in the top block and in the bottom block.
 #[test]
 fn strings_too_deep(rt: HostRuntime) -> Result<(), Fail> {
+    let mut core = sd_core(rt.alloc())?;
+    strings_too_deep_in(&rt, &mut core);
+    Ok(())
+}
+
+fn strings_too_deep_in<R: Abort>(rt: &R, core: &mut Core) {
     let rows: [(Depth, &[u8], &[u8], u32, u32); 5] = [
         (Depth::Two, &FOUR_BITS, &[], 13, 0),
         (Depth::Two, &EIGHT_BITS, &[], 13, 0),
@@ -195,7 +202,6 @@ fn strings_too_deep(rt: HostRuntime) -> Result<(), Fail> {
         (Depth::Two, &TWO_BITS, &FOUR_BITS, 17, 0),
         (Depth::Four, &TWO_BITS, &[0xF0, 0x12, 0x00, 0x00], 17, 1),
     ];
-    let mut core = sd_core(rt.alloc())?;
     let mut pts = 0u32;
     for (depth, top, bottom, block, place) in rows {
         let code = CodeFault {
@@ -212,10 +218,9 @@ fn strings_too_deep(rt: HostRuntime) -> Result<(), Fail> {
             y: 0,
             rows: [&[], &[], &[]],
         };
-        assert_eq!(rt; paint(&mut core, pts, &case), wanted, "set {pts}");
+        same_at(rt, pts, paint(core, pts, &case), wanted);
         pts = pts.wrapping_add(1);
     }
-    Ok(())
 }
 
 /// A map table, code 1 left out as it is read, fields of their own, lines below the first one, and
@@ -223,6 +228,11 @@ fn strings_too_deep(rt: HostRuntime) -> Result<(), Fail> {
 #[test]
 fn objects_in_a_region(rt: HostRuntime) -> Result<(), Fail> {
     let mut core = sd_core(rt.alloc())?;
+    objects_in_a_region_in(&rt, &mut core);
+    Ok(())
+}
+
+fn objects_in_a_region_in<R: Abort>(rt: &R, core: &mut Core) {
     let mut pts = 0u32;
     let filled = [0x66; 4].as_slice();
     let mapped = [0x51, 0xF6, 0x66, 0x66].as_slice();
@@ -269,8 +279,7 @@ fn objects_in_a_region(rt: HostRuntime) -> Result<(), Fail> {
             y,
             rows,
         };
-        is_painted(&rt, &mut core, pts, &case);
+        is_painted(rt, core, pts, &case);
         pts = pts.wrapping_add(1);
     }
-    Ok(())
 }

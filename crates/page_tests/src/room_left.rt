@@ -1,11 +1,13 @@
 //! What earlier sets of an epoch leave to a set: bytes of pixels, nodes, and versions.
 
+use crate::same::same_at;
 use crate::taken_sets::{
     CLUT, CLUT_AGAIN, EMPTY_PAGE, FILLED, NORMAL, OBJECT, OTHER, PAGE, REGION, first_colour, put,
     sd_core, take,
 };
 use decoder_model::{SetEnd, SetFault};
 use page_core::Core;
+use std::process::Abort;
 use std::test::Fail;
 use sub_base::{CLEAR, Colour};
 
@@ -32,6 +34,12 @@ const SMALL: &[u8] = &[15, 17, 0, 1, 0, 10, 5, 8, 0, 5, 0, 3, 0x24, 0, 0, 0];
 /// none, and all is free behind a set for which it is not enough.
 #[test]
 fn pixels_of_earlier_sets(rt: HostRuntime) -> Result<(), Fail> {
+    let mut core = sd_core(rt.alloc())?;
+    pixels_of_earlier_sets_in(&rt, &mut core);
+    Ok(())
+}
+
+fn pixels_of_earlier_sets_in<R: Abort>(rt: &R, core: &mut Core) {
     let full = |need, free| SetEnd::Broken(SetFault::PixelFull { need, free });
     let rows: [(&[&[u8]], SetEnd, u64); 10] = [
         (&[BEGIN, LINES], SetEnd::Shown, 24_320),
@@ -49,13 +57,11 @@ fn pixels_of_earlier_sets(rt: HostRuntime) -> Result<(), Fail> {
         ),
         (&[EMPTY_PAGE], SetEnd::Waiting, 81_920),
     ];
-    let mut core = sd_core(rt.alloc())?;
     for pts in 0..rows.len() {
         let (parts, end, free) = rows[pts];
-        let found = take(&mut core, pts as u32, parts);
-        assert_eq!(rt; (found, core.free_pixels()), (end, free), "set {pts}");
+        let found = take(core, pts as u32, parts);
+        same_at(rt, pts, (found, core.free_pixels()), (end, free));
     }
-    Ok(())
 }
 
 // A set with a page that lists region 1, that region of 2 by 1 pixels in a version with so many
@@ -105,6 +111,12 @@ fn take_coloured(core: &mut Core, pts: u32, set: Coloured) -> SetEnd {
 /// before them.
 #[test]
 fn nodes_of_earlier_sets(rt: HostRuntime) -> Result<(), Fail> {
+    let mut core = sd_core(rt.alloc())?;
+    nodes_of_earlier_sets_in(&rt, &mut core);
+    Ok(())
+}
+
+fn nodes_of_earlier_sets_in<R: Abort>(rt: &R, core: &mut Core) {
     let full = |size| SetEnd::Broken(SetFault::CompositionFull { size });
     let set = |page, region, listings, clut, entries| Coloured {
         page,
@@ -123,13 +135,11 @@ fn nodes_of_earlier_sets(rt: HostRuntime) -> Result<(), Fail> {
         (set(NORMAL, 2, 300, 1, 1), full(559), 512),
         (set(NORMAL, 3, 0, 2, 0), SetEnd::Waiting, 512),
     ];
-    let mut core = sd_core(rt.alloc())?;
     for pts in 0..rows.len() {
         let (set, end, free) = rows[pts];
-        let found = take_coloured(&mut core, pts as u32, set);
-        assert_eq!(rt; (found, core.free_nodes()), (end, free), "set {pts}");
+        let found = take_coloured(core, pts as u32, set);
+        same_at(rt, pts, (found, core.free_nodes()), (end, free));
     }
-    Ok(())
 }
 
 // Object 5 with two codes 2, and CLUT 0 with the colour (100, 128, 128, 0) for code 1, in version
@@ -144,34 +154,43 @@ const CLUT_LAST: &[u8] = &[15, 18, 0, 1, 0, 8, 0, 0xF0, 1, 0x81, 100, 128, 128, 
 /// version 0 does not.
 #[test]
 fn object_versions_go_round(rt: HostRuntime) -> Result<(), Fail> {
+    let mut core = sd_core(rt.alloc())?;
+    object_versions_go_round_in(&rt, &mut core);
+    Ok(())
+}
+
+fn object_versions_go_round_in<R: Abort>(rt: &R, core: &mut Core) {
     let rows: [(&[&[u8]], u8); 3] = [
         (&[PAGE, FILLED, OTHER_LAST], 0xA0),
         (&[NORMAL, OBJECT], 0x70),
         (&[NORMAL, OTHER], 0x70),
     ];
-    let mut core = sd_core(rt.alloc())?;
     for pts in 0..rows.len() {
         let (parts, row) = rows[pts];
-        match take(&mut core, pts as u32, parts) {
+        match take(core, pts as u32, parts) {
             SetEnd::Shown => {
                 let scene = core.scene();
-                assert_eq!(rt; scene.packed_row(1, 0), Some([row].as_slice()), "set {pts}");
+                same_at(rt, pts, scene.packed_row(1, 0), Some([row].as_slice()));
             }
-            end => assert_eq!(rt; end, SetEnd::Shown, "set {pts}"),
+            end => same_at(rt, pts, end, SetEnd::Shown),
         }
     }
-    Ok(())
 }
 
 /// The same for CLUTs.
 #[test]
 fn clut_versions_go_round(rt: HostRuntime) -> Result<(), Fail> {
+    let mut core = sd_core(rt.alloc())?;
+    clut_versions_go_round_in(&rt, &mut core);
+    Ok(())
+}
+
+fn clut_versions_go_round_in<R: Abort>(rt: &R, core: &mut Core) {
     let rows: [(&[&[u8]], u8); 3] = [
         (&[PAGE, REGION, OBJECT, CLUT_LAST], 100),
         (&[NORMAL, CLUT_AGAIN], 50),
         (&[NORMAL, CLUT], 50),
     ];
-    let mut core = sd_core(rt.alloc())?;
     let mut row = [CLEAR; 720];
     for pts in 0..rows.len() {
         let (parts, y) = rows[pts];
@@ -181,13 +200,12 @@ fn clut_versions_go_round(rt: HostRuntime) -> Result<(), Fail> {
             cb: 128,
             t: 0,
         };
-        match take(&mut core, pts as u32, parts) {
+        match take(core, pts as u32, parts) {
             SetEnd::Shown => {
                 let first = first_colour(&core.scene(), &mut row);
-                assert_eq!(rt; first, Some((720, colour)), "set {pts}");
+                same_at(rt, pts, first, Some((720, colour)));
             }
-            end => assert_eq!(rt; end, SetEnd::Shown, "set {pts}"),
+            end => same_at(rt, pts, end, SetEnd::Shown),
         }
     }
-    Ok(())
 }

@@ -1,5 +1,6 @@
 //! Each fault of a segment, told of its set, and what may not be twice in a set.
 
+use crate::same::same_at;
 use crate::taken_sets::{
     CHARACTERS, CLUT, CLUT_AGAIN, EMPTY_PAGE, END, FILLED_NEXT, OBJECT, OTHER, PAGE, REGION,
     SMALL_DISPLAY, in_segment, sd_core, take,
@@ -19,28 +20,25 @@ type Row<'a> = (&'a [u8], u32, SegmentKind);
 // set.
 fn are_broken<R: Abort>(rt: &R, alloc: Global, rows: &[Row<'_>]) -> Result<(), Fail> {
     let mut core = sd_core(alloc)?;
+    are_broken_in(rt, &mut core, rows);
+    Ok(())
+}
+
+fn are_broken_in<R: Abort>(rt: &R, core: &mut Core, rows: &[Row<'_>]) {
     let mut pts = 0u32;
     for (segment, place, kind) in rows {
         pts = pts.wrapping_add(2);
-        let shown = take(&mut core, pts, &[PAGE, REGION, OBJECT, END]);
-        assert_eq!(rt;
-            (shown, core.free_nodes()),
-            (SetEnd::Shown, 509),
-            "set {pts}"
-        );
-        let end = take(
-            &mut core,
-            pts.wrapping_add(1),
-            &[PAGE, segment, CHARACTERS, END],
-        );
-        assert_eq!(rt; end, in_segment(*place, *kind), "set {pts}");
-        assert_eq!(rt;
+        let shown = take(core, pts, &[PAGE, REGION, OBJECT, END]);
+        same_at(rt, pts, (shown, core.free_nodes()), (SetEnd::Shown, 509));
+        let end = take(core, pts.wrapping_add(1), &[PAGE, segment, CHARACTERS, END]);
+        same_at(rt, pts, end, in_segment(*place, *kind));
+        same_at(
+            rt,
+            pts,
             (core.free_nodes(), core.free_pixels()),
             (512, 81_920),
-            "set {pts}"
         );
     }
-    Ok(())
 }
 
 /// A page's length is that of its two bytes and six for each entry. It is tested before the state.
@@ -266,6 +264,12 @@ fn displays(rt: HostRuntime) -> Result<(), Fail> {
 /// objects and ends may be there again.
 #[test]
 fn twice_in_a_set(rt: HostRuntime) -> Result<(), Fail> {
+    let mut core = sd_core(rt.alloc())?;
+    twice_in_a_set_in(&rt, &mut core);
+    Ok(())
+}
+
+fn twice_in_a_set_in<R: Abort>(rt: &R, core: &mut Core) {
     let twice = |kind, id| SetEnd::Broken(SetFault::TwiceInSet { kind, id });
     let rows: [(&[&[u8]], SetEnd); 7] = [
         (&[PAGE, REGION, EMPTY_PAGE], twice(16, 0)),
@@ -276,10 +280,8 @@ fn twice_in_a_set(rt: HostRuntime) -> Result<(), Fail> {
         (&[PAGE, REGION, OBJECT, OTHER], SetEnd::Shown),
         (&[PAGE, REGION, END, END], SetEnd::Shown),
     ];
-    let mut core = sd_core(rt.alloc())?;
     for pts in 0..rows.len() {
         let (parts, end) = rows[pts];
-        assert_eq!(rt; take(&mut core, pts as u32, parts), end, "set {pts}");
+        same_at(rt, pts, take(core, pts as u32, parts), end);
     }
-    Ok(())
 }

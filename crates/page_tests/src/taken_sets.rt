@@ -1,9 +1,11 @@
 ghost use Rattle.std.specs.Prelude.{◌≡◌, true};
 ghost use Rattle.decoder_model.specs.declared.set_end.SetEnd.TheVariants.{Shown};
 
+use crate::same::{same, same_at};
 use decoder_model::{SetEnd, SetFault};
 use page_core::{Core, Scene};
 use std::alloc::Global;
+use std::process::Abort;
 use std::test::Fail;
 use stream_syntax::{CodeFault, CodeKind, SegmentFault, SegmentKind};
 use sub_base::{CLEAR, Colour, Profile, ProfileName};
@@ -189,6 +191,12 @@ pub(crate) fn in_segment(place: u32, kind: SegmentKind) -> SetEnd {
 /// what is free.
 #[test]
 fn verdicts(rt: HostRuntime) -> Result<(), Fail> {
+    let mut core = sd_core(rt.alloc())?;
+    verdicts_in(&rt, &mut core);
+    Ok(())
+}
+
+fn verdicts_in<R: Abort>(rt: &R, core: &mut Core) {
     let broken = |fault| SetEnd::Broken(fault);
     let too_deep = SegmentKind::Code(CodeFault {
         place: 0,
@@ -291,22 +299,27 @@ fn verdicts(rt: HostRuntime) -> Result<(), Fail> {
         (90_013, &[PAGE, FOUR_BITS, END], SetEnd::Shown, 509, 81_919),
         (90_014, &[PAGE, EIGHT_BITS, END], SetEnd::Shown, 509, 81_918),
     ];
-    let mut core = sd_core(rt.alloc())?;
     for (pts, parts, end, nodes, pixels) in rows {
-        assert_eq!(rt; take(&mut core, pts, parts), end, "set {pts}");
-        assert_eq!(rt;
+        same_at(rt, pts, take(core, pts, parts), end);
+        same_at(
+            rt,
+            pts,
             (core.free_nodes(), core.free_pixels()),
             (nodes, pixels),
-            "set {pts}"
         );
     }
-    Ok(())
 }
 
 /// All nodes are taken, by listings or by entries of the page, whichever were there before; and one
 /// more is too many.
 #[test]
 fn full_pools(rt: HostRuntime) -> Result<(), Fail> {
+    let mut core = sd_core(rt.alloc())?;
+    full_pools_in(&rt, &mut core);
+    Ok(())
+}
+
+fn full_pools_in<R: Abort>(rt: &R, core: &mut Core) {
     let full = SetEnd::Broken(SetFault::CompositionFull { size: 513 });
     let rows = [
         (8, 1, 0, 510, SetEnd::Shown, 0),
@@ -317,19 +330,23 @@ fn full_pools(rt: HostRuntime) -> Result<(), Fail> {
         (8, 2, 3, 510, full, 512),
         (8, 1, 3, 2, SetEnd::Shown, 508),
     ];
-    let mut core = sd_core(rt.alloc())?;
     for pts in 0..rows.len() {
         let (state, entries, version, listings, end, free) = rows[pts];
-        let found = take_large(&mut core, pts as u32, state, entries, version, listings);
-        assert_eq!(rt; (found, core.free_nodes()), (end, free), "set {pts}");
+        let found = take_large(core, pts as u32, state, entries, version, listings);
+        same_at(rt, pts, (found, core.free_nodes()), (end, free));
     }
-    Ok(())
 }
 
 /// A string of each depth in a region of each depth: the packed row, or none where the string is
 /// too deep.
 #[test]
 fn depths(rt: HostRuntime) -> Result<(), Fail> {
+    let mut core = sd_core(rt.alloc())?;
+    depths_in(&rt, &mut core);
+    Ok(())
+}
+
+fn depths_in<R: Abort>(rt: &R, core: &mut Core) {
     let rows: [(&[u8], &[u8], Option<&[u8]>); 9] = [
         (REGION, OBJECT, Some(&[0x70])),
         (REGION, FOUR_BIT_OBJECT, None),
@@ -341,21 +358,25 @@ fn depths(rt: HostRuntime) -> Result<(), Fail> {
         (EIGHT_BITS, FOUR_BIT_OBJECT, Some(&[0x11, 0xFF])),
         (EIGHT_BITS, EIGHT_BIT_OBJECT, Some(&[1, 255])),
     ];
-    let mut core = sd_core(rt.alloc())?;
     for pts in 0..rows.len() {
         let (region, object, row) = rows[pts];
-        match take(&mut core, pts as u32, &[PAGE, region, object]) {
-            SetEnd::Shown => assert_eq!(rt; core.scene().packed_row(1, 0), row, "set {pts}"),
-            _ => assert_eq!(rt; None, row, "set {pts}"),
+        match take(core, pts as u32, &[PAGE, region, object]) {
+            SetEnd::Shown => same_at(rt, pts, core.scene().packed_row(1, 0), row),
+            _ => same_at(rt, pts, None, row),
         }
     }
-    Ok(())
 }
 
 /// Versions: a region or an object with the version that is known is held, whatever it has;
 /// listings are unpainted behind a region's segment; and version 0 comes behind version 15.
 #[test]
 fn versions(rt: HostRuntime) -> Result<(), Fail> {
+    let mut core = sd_core(rt.alloc())?;
+    versions_in(&rt, &mut core);
+    Ok(())
+}
+
+fn versions_in<R: Abort>(rt: &R, core: &mut Core) {
     let rows: [(&[&[u8]], u8); 8] = [
         (&[PAGE, FILLED, OBJECT], 0x70),
         (&[NORMAL, FILLED_AGAIN, OTHER], 0x70),
@@ -366,24 +387,28 @@ fn versions(rt: HostRuntime) -> Result<(), Fail> {
         (&[NORMAL, FILLED_AGAIN], 0xA0),
         (&[PAGE, REGION], 0),
     ];
-    let mut core = sd_core(rt.alloc())?;
     for pts in 0..rows.len() {
         let (parts, row) = rows[pts];
-        match take(&mut core, pts as u32, parts) {
+        match take(core, pts as u32, parts) {
             SetEnd::Shown => {
                 let scene = core.scene();
-                assert_eq!(rt; scene.packed_row(1, 0), Some([row].as_slice()), "set {pts}");
+                same_at(rt, pts, scene.packed_row(1, 0), Some([row].as_slice()));
             }
-            end => assert_eq!(rt; end, SetEnd::Shown, "set {pts}"),
+            end => same_at(rt, pts, end, SetEnd::Shown),
         }
     }
-    Ok(())
 }
 
 /// Colours: a CLUT with the version that is known is held, and a new epoch has default colours. The
 /// display of an epoch stays where a set defines none.
 #[test]
 fn colours_and_displays(rt: HostRuntime) -> Result<(), Fail> {
+    let mut core = sd_core(rt.alloc())?;
+    colours_and_displays_in(&rt, &mut core);
+    Ok(())
+}
+
+fn colours_and_displays_in<R: Abort>(rt: &R, core: &mut Core) {
     let grey = |y| Colour {
         y,
         cr: 128,
@@ -398,20 +423,18 @@ fn colours_and_displays(rt: HostRuntime) -> Result<(), Fail> {
         (&[EMPTY_PAGE], 4, CLEAR),
         (&[PAGE, REGION, OBJECT], 720, WHITE),
     ];
-    let mut core = sd_core(rt.alloc())?;
     let mut row = [CLEAR; 720];
     for pts in 0..rows.len() {
         let (parts, width, colour) = rows[pts];
-        match take(&mut core, pts as u32, parts) {
+        match take(core, pts as u32, parts) {
             SetEnd::Shown => {
                 let first = first_colour(&core.scene(), &mut row);
-                assert_eq!(rt; first, Some((width, colour)), "set {pts}");
+                same_at(rt, pts, first, Some((width, colour)));
             }
-            end => assert_eq!(rt; end, SetEnd::Shown, "set {pts}"),
+            end => same_at(rt, pts, end, SetEnd::Shown),
         }
     }
-    assert_eq!(rt; (row[0], row[1], row[2]), (WHITE, GREY, CLEAR));
-    Ok(())
+    same(rt, (row[0], row[1], row[2]), (WHITE, GREY, CLEAR));
 }
 
 // The width of a picture, and the first colour of its first row, which the row then has.

@@ -3,9 +3,12 @@
 //! There is no code here but tests, so that no crate is proved again for them.
 #![tactic(auto)]
 
+// A comparison as a call.
 #[cfg(test)]
 mod painted_blocks;
 #[cfg(test)]
 mod painted_rows;
+#[cfg(test)]
+mod same;
 #[cfg(test)]
 mod stored_strings;

@@ -1,5 +1,6 @@
 ghost use Rattle.std.specs.Prelude.{◌≡◌};
 
+use crate::same::same;
 use block_painting::{FieldPlace, paint_block};
 use pixel_store::Store;
 use std::test::Fail;
@@ -68,16 +69,18 @@ fn top_field(rt: HostRuntime) -> Result<(), Fail> {
     let slot = store.place(10, 4, Depth::Eight)?;
     store.fill(slot, 0xEE);
     let deep = paint_block(&mut store, slot, top_from(1, 1), &TWO_LINES, Depth::Eight);
-    assert_eq!(rt; deep, None);
-    assert_eq!(rt; store.packed_row(slot, 0), [0xEE; 10].as_slice());
-    assert_eq!(rt;
+    same(&rt, deep, None);
+    same(&rt, store.packed_row(slot, 0), [0xEE; 10].as_slice());
+    same(
+        &rt,
         store.packed_row(slot, 1),
-        [0xEE, 0x05, 0x06, 0x33, 0x99, 0x77, 0xFF, 0x00, 0xEE, 0xEE].as_slice()
+        [0xEE, 0x05, 0x06, 0x33, 0x99, 0x77, 0xFF, 0x00, 0xEE, 0xEE].as_slice(),
     );
-    assert_eq!(rt; store.packed_row(slot, 2), [0xEE; 10].as_slice());
-    assert_eq!(rt;
+    same(&rt, store.packed_row(slot, 2), [0xEE; 10].as_slice());
+    same(
+        &rt,
         store.packed_row(slot, 3),
-        [0xEE, 0x07, 0xEE, 0xEE, 0xEE, 0xEE, 0xEE, 0xEE, 0xEE, 0xEE].as_slice()
+        [0xEE, 0x07, 0xEE, 0xEE, 0xEE, 0xEE, 0xEE, 0xEE, 0xEE, 0xEE].as_slice(),
     );
     Ok(())
 }
@@ -95,13 +98,14 @@ fn bottom_field(rt: HostRuntime) -> Result<(), Fail> {
         &TWO_LINES,
         Depth::Eight,
     );
-    assert_eq!(rt; deep, None);
-    assert_eq!(rt; store.packed_row(slot, 1), [0xEE; 10].as_slice());
-    assert_eq!(rt;
+    same(&rt, deep, None);
+    same(&rt, store.packed_row(slot, 1), [0xEE; 10].as_slice());
+    same(
+        &rt,
         store.packed_row(slot, 2),
-        [0x05, 0x06, 0x33, 0x99, 0x77, 0xFF, 0x00, 0xEE, 0xEE, 0xEE].as_slice()
+        [0x05, 0x06, 0x33, 0x99, 0x77, 0xFF, 0x00, 0xEE, 0xEE, 0xEE].as_slice(),
     );
-    assert_eq!(rt; store.packed_row(slot, 3), [0xEE; 10].as_slice());
+    same(&rt, store.packed_row(slot, 3), [0xEE; 10].as_slice());
     Ok(())
 }
 
@@ -112,10 +116,11 @@ fn tables_one_after_another(rt: HostRuntime) -> Result<(), Fail> {
     let slot = store.place(13, 1, Depth::Four)?;
     store.fill(slot, 5);
     let deep = paint_block(&mut store, slot, top_from(0, 0), &NEW_TABLES, Depth::Four);
-    assert_eq!(rt; deep, None);
-    assert_eq!(rt;
+    same(&rt, deep, None);
+    same(
+        &rt,
         store.packed_row(slot, 0),
-        [0x78, 0xF0, 0xA2, 0xB1, 0xED, 0xCF, 0x50].as_slice()
+        [0x78, 0xF0, 0xA2, 0xB1, 0xED, 0xCF, 0x50].as_slice(),
     );
     Ok(())
 }
@@ -127,10 +132,11 @@ fn tables_of_both_depths(rt: HostRuntime) -> Result<(), Fail> {
     let slot = store.place(8, 1, Depth::Eight)?;
     store.fill(slot, 0xEE);
     let deep = paint_block(&mut store, slot, top_from(1, 0), &WIDE_TABLES, Depth::Eight);
-    assert_eq!(rt; deep, None);
-    assert_eq!(rt;
+    same(&rt, deep, None);
+    same(
+        &rt,
         store.packed_row(slot, 0),
-        [0xEE, 0xA1, 0xA2, 0xA3, 0xA0, 0x13, 0x19, 0xEE].as_slice()
+        [0xEE, 0xA1, 0xA2, 0xA3, 0xA0, 0x13, 0x19, 0xEE].as_slice(),
     );
     Ok(())
 }
@@ -151,8 +157,8 @@ fn seen_through(rt: HostRuntime) -> Result<(), Fail> {
         see_through: true,
     };
     let deep = paint_block(&mut store, slot, place, &MAPPED_TO_ONE, Depth::Four);
-    assert_eq!(rt; deep, None);
-    assert_eq!(rt; store.packed_row(slot, 0), [0x51, 0xF2].as_slice());
+    same(&rt, deep, None);
+    same(&rt, store.packed_row(slot, 0), [0x51, 0xF2].as_slice());
     Ok(())
 }
 
@@ -169,10 +175,22 @@ fn clipped_lines(rt: HostRuntime) -> Result<(), Fail> {
         &OVER_THE_EDGE,
         Depth::Eight,
     );
-    assert_eq!(rt; deep, None);
-    assert_eq!(rt; store.packed_row(slot, 0), [0xEE, 0x09, 0x09].as_slice());
-    assert_eq!(rt; store.packed_row(slot, 1), [0xEE, 0xEE, 0xEE].as_slice());
-    assert_eq!(rt; store.packed_row(slot, 2), [0xEE, 0x08, 0xEE].as_slice());
+    same(&rt, deep, None);
+    same(
+        &rt,
+        store.packed_row(slot, 0),
+        [0xEE, 0x09, 0x09].as_slice(),
+    );
+    same(
+        &rt,
+        store.packed_row(slot, 1),
+        [0xEE, 0xEE, 0xEE].as_slice(),
+    );
+    same(
+        &rt,
+        store.packed_row(slot, 2),
+        [0xEE, 0x08, 0xEE].as_slice(),
+    );
     Ok(())
 }
 
@@ -183,14 +201,14 @@ fn deep_strings(rt: HostRuntime) -> Result<(), Fail> {
     let slot = store.place(3, 3, Depth::Four)?;
     store.fill(slot, 5);
     let deep = paint_block(&mut store, slot, top_from(0, 0), &DEEP_STRING, Depth::Four);
-    assert_eq!(rt; deep, Some(4));
-    assert_eq!(rt; store.packed_row(slot, 0), [0x39, 0x50].as_slice());
-    assert_eq!(rt; store.packed_row(slot, 1), [0x55, 0x50].as_slice());
-    assert_eq!(rt; store.packed_row(slot, 2), [0x55, 0x50].as_slice());
+    same(&rt, deep, Some(4));
+    same(&rt, store.packed_row(slot, 0), [0x39, 0x50].as_slice());
+    same(&rt, store.packed_row(slot, 1), [0x55, 0x50].as_slice());
+    same(&rt, store.packed_row(slot, 2), [0x55, 0x50].as_slice());
     let narrow = store.place(3, 1, Depth::Two)?;
     let deep = paint_block(&mut store, narrow, top_from(0, 0), &DEEP_STRING, Depth::Two);
-    assert_eq!(rt; deep, Some(0));
-    assert_eq!(rt; store.packed_row(narrow, 0), [0x00].as_slice());
+    same(&rt, deep, Some(0));
+    same(&rt, store.packed_row(narrow, 0), [0x00].as_slice());
     Ok(())
 }
 
@@ -202,12 +220,25 @@ fn no_blocks(rt: HostRuntime) -> Result<(), Fail> {
     let unknown = [0x77, 0x12, 0x05, 0x00, 0x00];
     let cut = [0x21, 0xA0, 0xA1, 0xA2];
     let at = top_from(0, 0);
-    assert_eq!(rt; paint_block(&mut store, slot, at, &[], Depth::Eight), None);
-    assert_eq!(rt;
-        paint_block(&mut store, slot, at, &unknown, Depth::Eight),
-        None
+    same(
+        &rt,
+        paint_block(&mut store, slot, at, &[], Depth::Eight),
+        None,
     );
-    assert_eq!(rt; paint_block(&mut store, slot, at, &cut, Depth::Eight), None);
-    assert_eq!(rt; store.packed_row(slot, 0), [0x00, 0x00, 0x00].as_slice());
+    same(
+        &rt,
+        paint_block(&mut store, slot, at, &unknown, Depth::Eight),
+        None,
+    );
+    same(
+        &rt,
+        paint_block(&mut store, slot, at, &cut, Depth::Eight),
+        None,
+    );
+    same(
+        &rt,
+        store.packed_row(slot, 0),
+        [0x00, 0x00, 0x00].as_slice(),
+    );
     Ok(())
 }

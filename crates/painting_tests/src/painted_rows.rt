@@ -1,5 +1,6 @@
 ghost use Rattle.std.specs.Prelude.{◌≡◌};
 
+use crate::same::same;
 use string_painting::{Brush, Painted, RowPlace, paint_string};
 use sub_base::Depth;
 
@@ -36,8 +37,8 @@ fn eight_bits_in_eight(rt: HostRuntime) {
         brush(Depth::Eight, Depth::Eight),
         &[],
     );
-    assert_eq!(rt; told, Painted { size: 9, x: 8 });
-    assert_eq!(rt; row, [0xEE, 7, 9, 9, 9, 0, 0, 1, 0xEE, 0xEE]);
+    same(&rt, told, Painted { size: 9, x: 8 });
+    same(&rt, row, [0xEE, 7, 9, 9, 9, 0, 0, 1, 0xEE, 0xEE]);
 }
 
 #[test]
@@ -50,8 +51,8 @@ fn eight_bits_over_the_edge(rt: HostRuntime) {
         brush(Depth::Eight, Depth::Eight),
         &[],
     );
-    assert_eq!(rt; told, Painted { size: 9, x: 8 });
-    assert_eq!(rt; row, [0xEE, 7, 9, 9, 0xEE, 0xEE]);
+    same(&rt, told, Painted { size: 9, x: 8 });
+    same(&rt, row, [0xEE, 7, 9, 9, 0xEE, 0xEE]);
 }
 
 #[test]
@@ -69,8 +70,8 @@ fn eight_bits_seen_through(rt: HostRuntime) {
         seen,
         &[],
     );
-    assert_eq!(rt; told, Painted { size: 9, x: 7 });
-    assert_eq!(rt; row, [7, 9, 9, 9, 0, 0, 0xEE, 0xEE]);
+    same(&rt, told, Painted { size: 9, x: 7 });
+    same(&rt, row, [7, 9, 9, 9, 0, 0, 0xEE, 0xEE]);
 }
 
 #[test]
@@ -87,12 +88,13 @@ fn four_bits_in_eight(rt: HostRuntime) {
         brush(Depth::Four, Depth::Eight),
         &table,
     );
-    assert_eq!(rt; told, Painted { size: 6, x: 13 });
-    assert_eq!(rt;
+    same(&rt, told, Painted { size: 6, x: 13 });
+    same(
+        &rt,
         row,
         [
-            0x13, 0x10, 0x10, 0x10, 0x10, 0x16, 0x16, 0x16, 0x16, 0x16, 0x10, 0x10
-        ]
+            0x13, 0x10, 0x10, 0x10, 0x10, 0x16, 0x16, 0x16, 0x16, 0x16, 0x10, 0x10,
+        ],
     );
 }
 
@@ -107,12 +109,13 @@ fn two_bits_in_eight(rt: HostRuntime) {
         brush(Depth::Two, Depth::Eight),
         &table,
     );
-    assert_eq!(rt; told, Painted { size: 5, x: 24 });
-    assert_eq!(rt;
+    same(&rt, told, Painted { size: 5, x: 24 });
+    same(
+        &rt,
         row,
         [
-            0xEE, 0xA2, 0xA1, 0xA1, 0xA1, 0xA1, 0xA0, 0xA0, 0xA0, 0xA3, 0xA3, 0xEE
-        ]
+            0xEE, 0xA2, 0xA1, 0xA1, 0xA1, 0xA1, 0xA0, 0xA0, 0xA0, 0xA3, 0xA3, 0xEE,
+        ],
     );
 }
 
@@ -126,8 +129,8 @@ fn four_bits_in_four(rt: HostRuntime) {
         brush(Depth::Four, Depth::Four),
         &[],
     );
-    assert_eq!(rt; told, Painted { size: 6, x: 14 });
-    assert_eq!(rt; row, [0xE3, 0x00, 0x00, 0x66, 0x66, 0x60, 0x0E]);
+    same(&rt, told, Painted { size: 6, x: 14 });
+    same(&rt, row, [0xE3, 0x00, 0x00, 0x66, 0x66, 0x60, 0x0E]);
 }
 
 #[test]
@@ -140,8 +143,8 @@ fn two_bits_in_two(rt: HostRuntime) {
         brush(Depth::Two, Depth::Two),
         &[],
     );
-    assert_eq!(rt; told, Painted { size: 5, x: 25 });
-    assert_eq!(rt; row, [0x59, 0x54, 0x0F, 0xFF, 0xFF, 0xD5]);
+    same(&rt, told, Painted { size: 5, x: 25 });
+    same(&rt, row, [0x59, 0x54, 0x0F, 0xFF, 0xFF, 0xD5]);
 }
 
 #[test]
@@ -155,11 +158,12 @@ fn two_bits_in_four(rt: HostRuntime) {
         brush(Depth::Two, Depth::Four),
         &table,
     );
-    assert_eq!(rt; told, Painted { size: 5, x: 23 });
-    assert_eq!(rt;
+    same(&rt, told, Painted { size: 5, x: 23 });
+    same(
+        &rt,
         row,
         [
-            0x2A, 0xAA, 0xA1, 0x11, 0xBB, 0xBB, 0xBB, 0xBB, 0xBB, 0xBB, 0xBB, 0xBE
-        ]
+            0x2A, 0xAA, 0xA1, 0x11, 0xBB, 0xBB, 0xBB, 0xBB, 0xBB, 0xBB, 0xBB, 0xBE,
+        ],
     );
 }

@@ -1,4 +1,5 @@
 use crate::painted_rows::{EIGHT_BIT_CODES, FOUR_BIT_CODES, TWO_BIT_CODES, brush};
+use crate::same::same;
 use pixel_store::Store;
 use std::test::Fail;
 use string_painting::{Brush, Painted};
@@ -18,11 +19,12 @@ fn eight_bits_in_a_region_of_eight(rt: HostRuntime) -> Result<(), Fail> {
         brush(Depth::Eight, Depth::Eight),
         &[],
     );
-    assert_eq!(rt; told, Painted { size: 9, x: 8 });
-    assert_eq!(rt; store.packed_row(slot, 0), [0xEE; 6].as_slice());
-    assert_eq!(rt;
+    same(&rt, told, Painted { size: 9, x: 8 });
+    same(&rt, store.packed_row(slot, 0), [0xEE; 6].as_slice());
+    same(
+        &rt,
         store.packed_row(slot, 1),
-        [0xEE, 0x07, 0x09, 0x09, 0x09, 0x00].as_slice()
+        [0xEE, 0x07, 0x09, 0x09, 0x09, 0x00].as_slice(),
     );
     Ok(())
 }
@@ -41,9 +43,17 @@ fn four_bits_in_a_region_of_four(rt: HostRuntime) -> Result<(), Fail> {
         brush(Depth::Four, Depth::Four),
         &[],
     );
-    assert_eq!(rt; told, Painted { size: 6, x: 15 });
-    assert_eq!(rt; store.packed_row(slot, 0), [0xEE, 0x30, 0x00].as_slice());
-    assert_eq!(rt; store.packed_row(slot, 1), [0xEE, 0xEE, 0xE0].as_slice());
+    same(&rt, told, Painted { size: 6, x: 15 });
+    same(
+        &rt,
+        store.packed_row(slot, 0),
+        [0xEE, 0x30, 0x00].as_slice(),
+    );
+    same(
+        &rt,
+        store.packed_row(slot, 1),
+        [0xEE, 0xEE, 0xE0].as_slice(),
+    );
     Ok(())
 }
 
@@ -59,9 +69,17 @@ fn two_bits_in_a_region_of_four(rt: HostRuntime) -> Result<(), Fail> {
         see_through: true,
     };
     let told = store.paint_string(slot, 1, 1, &TWO_BIT_CODES, seen, &[0x7A, 0x3F]);
-    assert_eq!(rt; told, Painted { size: 5, x: 24 });
-    assert_eq!(rt; store.packed_row(slot, 0), [0xEE, 0xEE, 0xE0].as_slice());
-    assert_eq!(rt; store.packed_row(slot, 1), [0xE3, 0xEE, 0xE0].as_slice());
+    same(&rt, told, Painted { size: 5, x: 24 });
+    same(
+        &rt,
+        store.packed_row(slot, 0),
+        [0xEE, 0xEE, 0xE0].as_slice(),
+    );
+    same(
+        &rt,
+        store.packed_row(slot, 1),
+        [0xE3, 0xEE, 0xE0].as_slice(),
+    );
     Ok(())
 }
 
@@ -75,9 +93,9 @@ fn two_bits_in_a_region_of_two(rt: HostRuntime) -> Result<(), Fail> {
     let two = brush(Depth::Two, Depth::Two);
     let told = store.paint_string(slot, 3, 0, &TWO_BIT_CODES, two, &[]);
     let behind = store.paint_string(slot, 3, 2, &TWO_BIT_CODES, two, &[]);
-    assert_eq!(rt; told, Painted { size: 5, x: 26 });
-    assert_eq!(rt; behind, told);
-    assert_eq!(rt; store.packed_row(slot, 0), [0xFE, 0x50].as_slice());
-    assert_eq!(rt; store.packed_row(slot, 1), [0xFF, 0xF0].as_slice());
+    same(&rt, told, Painted { size: 5, x: 26 });
+    same(&rt, behind, told);
+    same(&rt, store.packed_row(slot, 0), [0xFE, 0x50].as_slice());
+    same(&rt, store.packed_row(slot, 1), [0xFF, 0xF0].as_slice());
     Ok(())
 }

@@ -1,3 +1,4 @@
+use crate::same::same;
 use crate::sending::{END, FILLED, NORMAL, OPEN, packet_of};
 use check_text::Check;
 use command_text::{TextBuffer, flush};
@@ -65,9 +66,10 @@ fn what_becomes_of_sets(rt: HostRuntime) -> Result<(), Fail> {
         packet_of(3, 270_000, &END),
         packet_of(4, 45_000, &FILLED),
     ];
-    assert_eq!(rt;
+    same(
+        &rt,
         told_of(rt.alloc(), &packets)?.written(),
-        ALL_ENDS.as_bytes()
+        ALL_ENDS.as_bytes(),
     );
     Ok(())
 }
@@ -79,13 +81,21 @@ fn set_stands_before_bytes_of_another_time(rt: HostRuntime) -> Result<(), Fail> 
         null_packet(),
         packet_of(1, 180_000, &FILLED),
     ];
-    assert_eq!(rt; told_of(rt.alloc(), &packets)?.written(), BEFORE.as_bytes());
+    same(
+        &rt,
+        told_of(rt.alloc(), &packets)?.written(),
+        BEFORE.as_bytes(),
+    );
     Ok(())
 }
 
 #[test]
 fn set_is_late(rt: HostRuntime) -> Result<(), Fail> {
     let packets = [packet_of(0, 64, &FILLED), packet_of(1, 90_000, &OPEN)];
-    assert_eq!(rt; told_of(rt.alloc(), &packets)?.written(), AT_END.as_bytes());
+    same(
+        &rt,
+        told_of(rt.alloc(), &packets)?.written(),
+        AT_END.as_bytes(),
+    );
     Ok(())
 }

@@ -1,3 +1,4 @@
+use crate::same::same;
 use decoder_model::{Pages, SetEnd};
 use set_receiver::SetReceiver;
 use std::test::Fail;
@@ -45,13 +46,17 @@ fn what_becomes_of_sets(rt: HostRuntime) -> Result<(), Fail> {
         size: 31,
         painted: 0,
     };
-    assert_eq!(rt; end_with(&mut receiver, &packet_of(0)), Some(SetEnd::Shown));
-    assert_eq!(rt; receiver.load(), load);
+    same(
+        &rt,
+        end_with(&mut receiver, &packet_of(0)),
+        Some(SetEnd::Shown),
+    );
+    same(&rt, receiver.load(), load);
     let late = SetEnd::NotLater { last: 90_000 };
-    assert_eq!(rt; end_with(&mut receiver, &packet_of(2)), Some(late));
-    assert_eq!(rt; receiver.load(), load);
-    assert_eq!(rt; receiver.ready_at(), None);
+    same(&rt, end_with(&mut receiver, &packet_of(2)), Some(late));
+    same(&rt, receiver.load(), load);
+    same(&rt, receiver.ready_at(), None);
     assert!(rt; receiver.ready_set().is_none());
-    assert_eq!(rt; receiver.core().free_nodes(), profile.nodes);
+    same(&rt, receiver.core().free_nodes(), profile.nodes);
     Ok(())
 }

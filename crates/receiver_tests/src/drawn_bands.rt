@@ -1,5 +1,6 @@
 ghost use Rattle.std.specs.Prelude.{◌≡◌, ◌≤◌, true, IfOk};
 
+use crate::same::same;
 use band_draw::draw;
 use page_core::{Core, SetEnd};
 use std::alloc::Global;
@@ -99,7 +100,7 @@ fn two_bands_meet(rt: HostRuntime) -> Result<(), Fail> {
     };
     let mut plane = [CLEAR; 20];
     draw_twenty(&rt, &core, &mut plane, 2, &gate)?;
-    assert_eq!(rt; gate.met.load(Ordering::SeqCst), 2);
+    same(&rt, gate.met.load(Ordering::SeqCst), 2);
     Ok(())
 }
 
@@ -125,7 +126,7 @@ fn bands_without_rows_are_left_out(rt: HostRuntime) -> Result<(), Fail> {
     };
     let mut plane = [CLEAR; 20];
     draw_twenty(&rt, &core, &mut plane, 64, &gate)?;
-    assert_eq!(rt; gate.count.load(Ordering::SeqCst), 0x1_1111);
+    same(&rt, gate.count.load(Ordering::SeqCst), 0x1_1111);
     Ok(())
 }
 
@@ -136,9 +137,9 @@ fn one_picture_in_any_bands(rt: HostRuntime) -> Result<(), Fail> {
     for bands in [1, 2, 3, 5, 7, 64] {
         let mut plane = [RED; 20];
         draw_twenty(&rt, &core, &mut plane, bands, &NoGate)?;
-        assert_eq!(rt; &plane[..4], [CLEAR; 4].as_slice());
-        assert_eq!(rt; &plane[4..16], [RED; 12].as_slice());
-        assert_eq!(rt; &plane[16..], [CLEAR; 4].as_slice());
+        same(&rt, &plane[..4], [CLEAR; 4].as_slice());
+        same(&rt, &plane[4..16], [RED; 12].as_slice());
+        same(&rt, &plane[16..], [CLEAR; 4].as_slice());
     }
     Ok(())
 }

@@ -3,6 +3,10 @@
 //! crate is proved again for them.
 #![tactic(auto)]
 
+// A comparison as a call.
+#[cfg(test)]
+mod same;
+
 // Packets that hold a PES packet whole, and a receiver that is asked at each step.
 #[cfg(test)]
 mod sending;

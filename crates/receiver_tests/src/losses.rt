@@ -3,6 +3,7 @@
 
 ghost use Rattle.std.specs.Prelude.{◌<◌, ◌^◌};
 
+use crate::same::same;
 use crate::sending::{END, FILLED};
 use crate::trial::{Seen, Trial};
 use page_core::SetEnd;
@@ -230,7 +231,11 @@ impl Link {
         let unit = self.unit(alloc, &FILLED)?;
         let packet = self.packet(&unit, 0)?;
         let _ = self.trial.feed(&packet);
-        assert_eq!(rt; self.trial.take_timed(rt), Some((self.time, SetEnd::Shown)));
+        same(
+            rt,
+            self.trial.take_timed(rt),
+            Some((self.time, SetEnd::Shown)),
+        );
         Ok(())
     }
 

@@ -1,3 +1,4 @@
+use crate::same::same;
 use packet_source::{PacketSource, StreamEnd};
 use std::alloc::Global;
 use std::process::Abort;
@@ -29,7 +30,7 @@ fn counting_bytes(alloc: Global, size: usize) -> Result<Vec<u8>, Fail> {
 
 /// The packets in hand come behind those that were taken before.
 fn take_packets<R: Abort>(rt: &R, packets: &PacketSource, taken: &mut Vec<u8>) -> Result<(), Fail> {
-    assert_eq!(rt; packets.first(), (taken.len() / PACKET_LENGTH) as u64);
+    same(rt, packets.first(), (taken.len() / PACKET_LENGTH) as u64);
     for packet in packets.packets() {
         taken.extend_from_slice(packet)?;
     }
@@ -56,9 +57,9 @@ fn is_taken<R: Abort>(rt: &R, alloc: Global, row: Row) -> Result<(), Fail> {
         }
     }
     let whole = counting_bytes(alloc, row.packets.saturating_mul(PACKET_LENGTH))?;
-    assert_eq!(rt; taken.as_slice(), whole.as_slice());
-    assert_eq!(rt; failures, row.failures);
-    assert_eq!(rt; end, StreamEnd::Whole { cut: row.cut });
+    same(rt, taken.as_slice(), whole.as_slice());
+    same(rt, failures, row.failures);
+    same(rt, end, StreamEnd::Whole { cut: row.cut });
     Ok(())
 }
 

@@ -1,3 +1,4 @@
+use crate::same::same;
 use crate::sending::{END, FILLED, NORMAL, OPEN};
 use crate::trial::{Seen, Trial};
 use page_core::SetEnd;
@@ -42,11 +43,11 @@ const FOLLOWED: Option<Result<Event, PacketFault>> = Some(Ok(Event::Followed));
 #[test]
 fn nothing_was_fed(rt: HostRuntime) -> Result<(), Fail> {
     let trial = Trial::new(rt.alloc())?;
-    assert_eq!(rt; trial.ready(), None);
-    assert_eq!(rt; trial.ready_at(), None);
-    assert_eq!(rt; trial.from(), 0);
-    assert_eq!(rt; trial.seen_at(0), Seen::Clear);
-    assert_eq!(rt; trial.free_nodes(), 512);
+    same(&rt, trial.ready(), None);
+    same(&rt, trial.ready_at(), None);
+    same(&rt, trial.from(), 0);
+    same(&rt, trial.seen_at(0), Seen::Clear);
+    same(&rt, trial.free_nodes(), 512);
     Ok(())
 }
 
@@ -54,10 +55,10 @@ fn nothing_was_fed(rt: HostRuntime) -> Result<(), Fail> {
 #[test]
 fn set_is_ready_with_its_end(rt: HostRuntime) -> Result<(), Fail> {
     let mut trial = Trial::new(rt.alloc())?;
-    assert_eq!(rt; trial.send(90_000, &FILLED), FOLLOWED);
-    assert_eq!(rt; trial.ready(), Some(90_000));
-    assert_eq!(rt; trial.ready_at(), Some(90_000));
-    assert_eq!(rt; trial.send(180_000, &NORMAL), None);
+    same(&rt, trial.send(90_000, &FILLED), FOLLOWED);
+    same(&rt, trial.ready(), Some(90_000));
+    same(&rt, trial.ready_at(), Some(90_000));
+    same(&rt, trial.send(180_000, &NORMAL), None);
     Ok(())
 }
 
@@ -66,22 +67,22 @@ fn set_is_ready_with_its_end(rt: HostRuntime) -> Result<(), Fail> {
 #[test]
 fn what_a_set_asks(rt: HostRuntime) -> Result<(), Fail> {
     let mut trial = Trial::new(rt.alloc())?;
-    assert_eq!(rt; trial.show_filled(&rt, 90_000), Some(SetEnd::Shown));
+    same(&rt, trial.show_filled(&rt, 90_000), Some(SetEnd::Shown));
     let load = trial.load();
-    assert_eq!(rt; (load.pts, load.size, load.painted), (90_000, 64, 1));
-    assert_eq!(rt; trial.free_nodes(), 510);
-    assert_eq!(rt; trial.free_pixels(), 81_912);
+    same(&rt, (load.pts, load.size, load.painted), (90_000, 64, 1));
+    same(&rt, trial.free_nodes(), 510);
+    same(&rt, trial.free_pixels(), 81_912);
     Ok(())
 }
 
 #[test]
 fn set_is_shown_from_its_time_on(rt: HostRuntime) -> Result<(), Fail> {
     let mut trial = Trial::new(rt.alloc())?;
-    assert_eq!(rt; trial.show_filled(&rt, 90_000), Some(SetEnd::Shown));
-    assert_eq!(rt; trial.ready(), None);
-    assert_eq!(rt; trial.from(), 0);
-    assert_eq!(rt; trial.seen_at(89_999), Seen::Clear);
-    assert_eq!(rt; trial.seen_at(90_000), Seen::Picture(Some(RED)));
+    same(&rt, trial.show_filled(&rt, 90_000), Some(SetEnd::Shown));
+    same(&rt, trial.ready(), None);
+    same(&rt, trial.from(), 0);
+    same(&rt, trial.seen_at(89_999), Seen::Clear);
+    same(&rt, trial.seen_at(90_000), Seen::Picture(Some(RED)));
     Ok(())
 }
 
@@ -89,13 +90,13 @@ fn set_is_shown_from_its_time_on(rt: HostRuntime) -> Result<(), Fail> {
 #[test]
 fn set_is_shown_up_to_the_next_one(rt: HostRuntime) -> Result<(), Fail> {
     let mut trial = Trial::new(rt.alloc())?;
-    assert_eq!(rt; trial.show_filled(&rt, 90_000), Some(SetEnd::Shown));
-    assert_eq!(rt; trial.send(180_000, &NORMAL), FOLLOWED);
-    assert_eq!(rt; trial.take(&rt), Some(SetEnd::Shown));
-    assert_eq!(rt; trial.from(), 90_000);
-    assert_eq!(rt; trial.seen_at(89_999), Seen::TooEarly);
-    assert_eq!(rt; trial.seen_at(179_999), Seen::Picture(Some(RED)));
-    assert_eq!(rt; trial.seen_at(180_000), Seen::Picture(Some(CLEAR)));
+    same(&rt, trial.show_filled(&rt, 90_000), Some(SetEnd::Shown));
+    same(&rt, trial.send(180_000, &NORMAL), FOLLOWED);
+    same(&rt, trial.take(&rt), Some(SetEnd::Shown));
+    same(&rt, trial.from(), 90_000);
+    same(&rt, trial.seen_at(89_999), Seen::TooEarly);
+    same(&rt, trial.seen_at(179_999), Seen::Picture(Some(RED)));
+    same(&rt, trial.seen_at(180_000), Seen::Picture(Some(CLEAR)));
     Ok(())
 }
 
@@ -103,9 +104,9 @@ fn set_is_shown_up_to_the_next_one(rt: HostRuntime) -> Result<(), Fail> {
 #[test]
 fn set_is_timed_out(rt: HostRuntime) -> Result<(), Fail> {
     let mut trial = Trial::new(rt.alloc())?;
-    assert_eq!(rt; trial.show_filled(&rt, 90_000), Some(SetEnd::Shown));
-    assert_eq!(rt; trial.seen_at(1_169_999), Seen::Picture(Some(RED)));
-    assert_eq!(rt; trial.seen_at(1_170_000), Seen::Clear);
+    same(&rt, trial.show_filled(&rt, 90_000), Some(SetEnd::Shown));
+    same(&rt, trial.seen_at(1_169_999), Seen::Picture(Some(RED)));
+    same(&rt, trial.seen_at(1_170_000), Seen::Clear);
     Ok(())
 }
 
@@ -114,13 +115,13 @@ fn set_is_timed_out(rt: HostRuntime) -> Result<(), Fail> {
 #[test]
 fn set_is_ready_with_another_time(rt: HostRuntime) -> Result<(), Fail> {
     let mut trial = Trial::new(rt.alloc())?;
-    assert_eq!(rt; trial.send(90_000, &OPEN), FOLLOWED);
-    assert_eq!(rt; trial.ready(), None);
-    assert_eq!(rt; trial.send(180_000, &FILLED), FOLLOWED);
-    assert_eq!(rt; trial.ready(), Some(90_000));
-    assert_eq!(rt; trial.take(&rt), Some(SetEnd::Shown));
-    assert_eq!(rt; trial.load().size, 25);
-    assert_eq!(rt; trial.ready(), Some(180_000));
+    same(&rt, trial.send(90_000, &OPEN), FOLLOWED);
+    same(&rt, trial.ready(), None);
+    same(&rt, trial.send(180_000, &FILLED), FOLLOWED);
+    same(&rt, trial.ready(), Some(90_000));
+    same(&rt, trial.take(&rt), Some(SetEnd::Shown));
+    same(&rt, trial.load().size, 25);
+    same(&rt, trial.ready(), Some(180_000));
     Ok(())
 }
 
@@ -128,21 +129,21 @@ fn set_is_ready_with_another_time(rt: HostRuntime) -> Result<(), Fail> {
 #[test]
 fn set_of_two_units(rt: HostRuntime) -> Result<(), Fail> {
     let mut trial = Trial::new(rt.alloc())?;
-    assert_eq!(rt; trial.send(90_000, &OPEN), FOLLOWED);
-    assert_eq!(rt; trial.send(90_000, &END), FOLLOWED);
-    assert_eq!(rt; trial.take(&rt), Some(SetEnd::Shown));
-    assert_eq!(rt; trial.load().size, 48);
+    same(&rt, trial.send(90_000, &OPEN), FOLLOWED);
+    same(&rt, trial.send(90_000, &END), FOLLOWED);
+    same(&rt, trial.take(&rt), Some(SetEnd::Shown));
+    same(&rt, trial.load().size, 48);
     Ok(())
 }
 
 #[test]
 fn set_is_ready_with_the_end_of_the_stream(rt: HostRuntime) -> Result<(), Fail> {
     let mut trial = Trial::new(rt.alloc())?;
-    assert_eq!(rt; trial.send(90_000, &OPEN), FOLLOWED);
+    same(&rt, trial.send(90_000, &OPEN), FOLLOWED);
     assert!(rt; trial.finish());
-    assert_eq!(rt; trial.ready(), Some(90_000));
-    assert_eq!(rt; trial.take(&rt), Some(SetEnd::Shown));
-    assert_eq!(rt; trial.ready(), None);
+    same(&rt, trial.ready(), Some(90_000));
+    same(&rt, trial.take(&rt), Some(SetEnd::Shown));
+    same(&rt, trial.ready(), None);
     Ok(())
 }
 
@@ -151,20 +152,21 @@ fn set_is_ready_with_the_end_of_the_stream(rt: HostRuntime) -> Result<(), Fail> 
 #[test]
 fn nothing_is_known_behind_a_lost_packet(rt: HostRuntime) -> Result<(), Fail> {
     let mut trial = Trial::new(rt.alloc())?;
-    assert_eq!(rt; trial.show_filled(&rt, 90_000), Some(SetEnd::Shown));
+    same(&rt, trial.show_filled(&rt, 90_000), Some(SetEnd::Shown));
     let _ = trial.next(135_000, &NORMAL);
-    assert_eq!(rt;
+    same(
+        &rt,
         trial.send(180_000, &NORMAL),
         Some(Ok(Event::Gap {
             expected: 1,
-            found: 2
-        }))
+            found: 2,
+        })),
     );
-    assert_eq!(rt; trial.free_nodes(), 512);
-    assert_eq!(rt; trial.free_pixels(), 81_920);
-    assert_eq!(rt; trial.take(&rt), Some(SetEnd::Waiting));
-    assert_eq!(rt; trial.seen_at(179_999), Seen::Picture(Some(RED)));
-    assert_eq!(rt; trial.seen_at(180_000), Seen::Clear);
+    same(&rt, trial.free_nodes(), 512);
+    same(&rt, trial.free_pixels(), 81_920);
+    same(&rt, trial.take(&rt), Some(SetEnd::Waiting));
+    same(&rt, trial.seen_at(179_999), Seen::Picture(Some(RED)));
+    same(&rt, trial.seen_at(180_000), Seen::Clear);
     Ok(())
 }
 
@@ -172,10 +174,10 @@ fn nothing_is_known_behind_a_lost_packet(rt: HostRuntime) -> Result<(), Fail> {
 #[test]
 fn set_in_hand_is_lost(rt: HostRuntime) -> Result<(), Fail> {
     let mut trial = Trial::new(rt.alloc())?;
-    assert_eq!(rt; trial.send(90_000, &OPEN), FOLLOWED);
+    same(&rt, trial.send(90_000, &OPEN), FOLLOWED);
     let _ = trial.next(90_000, &END);
     let _ = trial.send(180_000, &OPEN);
-    assert_eq!(rt; trial.ready(), None);
+    same(&rt, trial.ready(), None);
     assert!(rt; !trial.arrival().before);
     Ok(())
 }
@@ -184,11 +186,11 @@ fn set_in_hand_is_lost(rt: HostRuntime) -> Result<(), Fail> {
 #[test]
 fn refused_packet_changes_nothing(rt: HostRuntime) -> Result<(), Fail> {
     let mut trial = Trial::new(rt.alloc())?;
-    assert_eq!(rt; trial.send(90_000, &OPEN), FOLLOWED);
-    assert_eq!(rt; trial.feed(&[0; 188]), Some(Err(PacketFault::NoSync)));
-    assert_eq!(rt; trial.arrival().bytes, 25);
-    assert_eq!(rt; trial.send(90_000, &END), FOLLOWED);
-    assert_eq!(rt; trial.take(&rt), Some(SetEnd::Shown));
+    same(&rt, trial.send(90_000, &OPEN), FOLLOWED);
+    same(&rt, trial.feed(&[0; 188]), Some(Err(PacketFault::NoSync)));
+    same(&rt, trial.arrival().bytes, 25);
+    same(&rt, trial.send(90_000, &END), FOLLOWED);
+    same(&rt, trial.take(&rt), Some(SetEnd::Shown));
     Ok(())
 }
 
@@ -196,13 +198,17 @@ fn refused_packet_changes_nothing(rt: HostRuntime) -> Result<(), Fail> {
 #[test]
 fn set_that_is_not_later(rt: HostRuntime) -> Result<(), Fail> {
     let mut trial = Trial::new(rt.alloc())?;
-    assert_eq!(rt; trial.show_filled(&rt, 90_000), Some(SetEnd::Shown));
-    assert_eq!(rt; trial.send(45_000, &FILLED), FOLLOWED);
-    assert_eq!(rt; trial.ready(), Some(45_000));
-    assert_eq!(rt; trial.ready_at(), None);
-    assert_eq!(rt; trial.take(&rt), Some(SetEnd::NotLater { last: 90_000 }));
-    assert_eq!(rt; trial.from(), 0);
-    assert_eq!(rt; trial.seen_at(89_999), Seen::Clear);
+    same(&rt, trial.show_filled(&rt, 90_000), Some(SetEnd::Shown));
+    same(&rt, trial.send(45_000, &FILLED), FOLLOWED);
+    same(&rt, trial.ready(), Some(45_000));
+    same(&rt, trial.ready_at(), None);
+    same(
+        &rt,
+        trial.take(&rt),
+        Some(SetEnd::NotLater { last: 90_000 }),
+    );
+    same(&rt, trial.from(), 0);
+    same(&rt, trial.seen_at(89_999), Seen::Clear);
     Ok(())
 }
 
@@ -210,13 +216,14 @@ fn set_that_is_not_later(rt: HostRuntime) -> Result<(), Fail> {
 #[test]
 fn load_of_a_set_that_is_not_later(rt: HostRuntime) -> Result<(), Fail> {
     let mut trial = Trial::new(rt.alloc())?;
-    assert_eq!(rt; trial.show_filled(&rt, 90_000), Some(SetEnd::Shown));
-    assert_eq!(rt;
+    same(&rt, trial.show_filled(&rt, 90_000), Some(SetEnd::Shown));
+    same(
+        &rt,
         trial.show_filled(&rt, 45_000),
-        Some(SetEnd::NotLater { last: 90_000 })
+        Some(SetEnd::NotLater { last: 90_000 }),
     );
     let load = trial.load();
-    assert_eq!(rt; (load.pts, load.size, load.painted), (45_000, 64, 0));
+    same(&rt, (load.pts, load.size, load.painted), (45_000, 64, 0));
     Ok(())
 }
 
@@ -224,13 +231,13 @@ fn load_of_a_set_that_is_not_later(rt: HostRuntime) -> Result<(), Fail> {
 #[test]
 fn unit_without_a_time_is_a_loss(rt: HostRuntime) -> Result<(), Fail> {
     let mut trial = Trial::new(rt.alloc())?;
-    assert_eq!(rt; trial.show_filled(&rt, 90_000), Some(SetEnd::Shown));
+    same(&rt, trial.show_filled(&rt, 90_000), Some(SetEnd::Shown));
     let mut packet = trial.next(180_000, &NORMAL);
     packet[164] = 0x00;
-    assert_eq!(rt; trial.feed(&packet), FOLLOWED);
+    same(&rt, trial.feed(&packet), FOLLOWED);
     assert!(rt; trial.arrival().dropped);
-    assert_eq!(rt; trial.send(180_000, &NORMAL), FOLLOWED);
-    assert_eq!(rt; trial.take(&rt), Some(SetEnd::Waiting));
+    same(&rt, trial.send(180_000, &NORMAL), FOLLOWED);
+    same(&rt, trial.take(&rt), Some(SetEnd::Waiting));
     Ok(())
 }
 
@@ -238,14 +245,14 @@ fn unit_without_a_time_is_a_loss(rt: HostRuntime) -> Result<(), Fail> {
 #[test]
 fn unit_of_another_stream_is_passed_over(rt: HostRuntime) -> Result<(), Fail> {
     let mut trial = Trial::new(rt.alloc())?;
-    assert_eq!(rt; trial.show_filled(&rt, 90_000), Some(SetEnd::Shown));
+    same(&rt, trial.show_filled(&rt, 90_000), Some(SetEnd::Shown));
     let mut packet = trial.next(180_000, &NORMAL);
     packet[160] = 0xC0;
-    assert_eq!(rt; trial.feed(&packet), FOLLOWED);
+    same(&rt, trial.feed(&packet), FOLLOWED);
     assert!(rt; trial.arrival().dropped);
-    assert_eq!(rt; trial.ready(), None);
-    assert_eq!(rt; trial.send(180_000, &NORMAL), FOLLOWED);
-    assert_eq!(rt; trial.take(&rt), Some(SetEnd::Shown));
+    same(&rt, trial.ready(), None);
+    same(&rt, trial.send(180_000, &NORMAL), FOLLOWED);
+    same(&rt, trial.take(&rt), Some(SetEnd::Shown));
     Ok(())
 }
 
@@ -253,20 +260,20 @@ fn unit_of_another_stream_is_passed_over(rt: HostRuntime) -> Result<(), Fail> {
 #[test]
 fn unit_of_another_page_does_not_count(rt: HostRuntime) -> Result<(), Fail> {
     let mut trial = Trial::new(rt.alloc())?;
-    assert_eq!(rt; trial.send(90_000, &OPEN), FOLLOWED);
-    assert_eq!(rt; trial.send(180_000, &OTHER_PAGE), FOLLOWED);
+    same(&rt, trial.send(90_000, &OPEN), FOLLOWED);
+    same(&rt, trial.send(180_000, &OTHER_PAGE), FOLLOWED);
     assert!(rt; trial.arrival().dropped);
-    assert_eq!(rt; trial.ready(), None);
-    assert_eq!(rt; trial.send(90_000, &END), FOLLOWED);
-    assert_eq!(rt; trial.ready(), Some(90_000));
+    same(&rt, trial.ready(), None);
+    same(&rt, trial.send(90_000, &END), FOLLOWED);
+    same(&rt, trial.ready(), Some(90_000));
     Ok(())
 }
 
 /// What a receiver shows of the display with a CLUT on page 2.
 fn shows_shared<R: Threads + Sync + Abort>(rt: &R, mut trial: Trial, colour: Colour) {
-    assert_eq!(rt; trial.send(90_000, &SHARED), FOLLOWED);
-    assert_eq!(rt; trial.take(rt), Some(SetEnd::Shown));
-    assert_eq!(rt; trial.seen_at(90_000), Seen::Picture(Some(colour)));
+    same(rt, trial.send(90_000, &SHARED), FOLLOWED);
+    same(rt, trial.take(rt), Some(SetEnd::Shown));
+    same(rt, trial.seen_at(90_000), Seen::Picture(Some(colour)));
 }
 
 /// A CLUT of the ancillary page is as one of the page; a receiver of the page alone has its default
@@ -282,11 +289,12 @@ fn clut_of_the_ancillary_page(rt: HostRuntime) -> Result<(), Fail> {
 #[test]
 fn bytes_of_a_unit_arrive(rt: HostRuntime) -> Result<(), Fail> {
     let mut trial = Trial::new(rt.alloc())?;
-    assert_eq!(rt; trial.send(90_000, &FILLED), FOLLOWED);
+    same(&rt, trial.send(90_000, &FILLED), FOLLOWED);
     let arrival = trial.arrival();
-    assert_eq!(rt;
+    same(
+        &rt,
         (arrival.bytes, arrival.before, arrival.dropped),
-        (64, false, false)
+        (64, false, false),
     );
     Ok(())
 }
@@ -297,11 +305,12 @@ fn no_bytes_of_another_pid_arrive(rt: HostRuntime) -> Result<(), Fail> {
     let mut trial = Trial::new(rt.alloc())?;
     let mut packet = trial.next(90_000, &FILLED);
     packet[2] = 0x01;
-    assert_eq!(rt; trial.feed(&packet), Some(Ok(Event::Other)));
+    same(&rt, trial.feed(&packet), Some(Ok(Event::Other)));
     let arrival = trial.arrival();
-    assert_eq!(rt;
+    same(
+        &rt,
         (arrival.bytes, arrival.before, arrival.dropped),
-        (0, false, false)
+        (0, false, false),
     );
     Ok(())
 }
@@ -312,17 +321,19 @@ fn unit_that_is_too_long_is_dropped(rt: HostRuntime) -> Result<(), Fail> {
     let mut trial = Trial::new(rt.alloc())?;
     let mut packet = trial.next(90_000, &FILLED);
     packet[128] = 0xF0;
-    assert_eq!(rt;
+    same(
+        &rt,
         trial.feed(&packet),
         Some(Ok(Event::TooLong {
             need: 61_504,
-            size: 24_576
-        }))
+            size: 24_576,
+        })),
     );
     let arrival = trial.arrival();
-    assert_eq!(rt;
+    same(
+        &rt,
         (arrival.bytes, arrival.before, arrival.dropped),
-        (64, false, true)
+        (64, false, true),
     );
     Ok(())
 }
@@ -331,12 +342,13 @@ fn unit_that_is_too_long_is_dropped(rt: HostRuntime) -> Result<(), Fail> {
 #[test]
 fn set_stands_before_bytes_of_another_time(rt: HostRuntime) -> Result<(), Fail> {
     let mut trial = Trial::new(rt.alloc())?;
-    assert_eq!(rt; trial.send(90_000, &OPEN), FOLLOWED);
-    assert_eq!(rt; trial.send(180_000, &FILLED), FOLLOWED);
+    same(&rt, trial.send(90_000, &OPEN), FOLLOWED);
+    same(&rt, trial.send(180_000, &FILLED), FOLLOWED);
     let arrival = trial.arrival();
-    assert_eq!(rt;
+    same(
+        &rt,
         (arrival.bytes, arrival.before, arrival.dropped),
-        (64, true, false)
+        (64, true, false),
     );
     Ok(())
 }
@@ -345,13 +357,14 @@ fn set_stands_before_bytes_of_another_time(rt: HostRuntime) -> Result<(), Fail> 
 #[test]
 fn unit_behind_its_set_is_dropped(rt: HostRuntime) -> Result<(), Fail> {
     let mut trial = Trial::new(rt.alloc())?;
-    assert_eq!(rt; trial.show_filled(&rt, 90_000), Some(SetEnd::Shown));
-    assert_eq!(rt; trial.send(90_000, &OPEN), FOLLOWED);
+    same(&rt, trial.show_filled(&rt, 90_000), Some(SetEnd::Shown));
+    same(&rt, trial.send(90_000, &OPEN), FOLLOWED);
     let arrival = trial.arrival();
-    assert_eq!(rt;
+    same(
+        &rt,
         (arrival.bytes, arrival.before, arrival.dropped),
-        (25, false, true)
+        (25, false, true),
     );
-    assert_eq!(rt; trial.ready(), None);
+    same(&rt, trial.ready(), None);
     Ok(())
 }

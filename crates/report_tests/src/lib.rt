@@ -2,6 +2,10 @@
 //! expected value was worked out by hand.
 #![tactic(auto)]
 
+// A comparison as a call.
+#[cfg(test)]
+mod same;
+
 // Sources, sinks and packets for a tool.
 #[cfg(test)]
 mod running;

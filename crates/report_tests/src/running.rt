@@ -1,6 +1,6 @@
 //! What a tool of a test is carried out over.
 
-ghost use Rattle.std.specs.Prelude.{◌≤◌, length};
+ghost use Rattle.std.specs.Prelude.{◌≤◌};
 
 use std::alloc::Global;
 use std::test::Fail;
@@ -28,26 +28,4 @@ pub(crate) fn stream_of(
 /// A sink that fails at the write of that number; 0 for none.
 pub(crate) fn sink_of(alloc: Global, bad_write: u64) -> Result<MemSink, Fail> {
     Ok(MemSink::make(alloc, 1_000_000, vec![in alloc; bad_write]?))
-}
-
-/// A transport packet of PID 256 with a PES packet of these segments at its end, of 17 bytes more.
-pub(crate) fn set_packet(counter: u8, pts: u32, segments: &[u8]) -> [u8; 188]
-    requires { length segments.now ≤ 160 }
-{
-    let length = segments.len() as u8;
-    let begin = 171 - segments.len();
-    let mut packet = [0xFF; 188];
-    packet[..6].copy_from_slice(&[0x47, 0x41, 0x00, 0x30 + counter % 16, 166 - length, 0x00]);
-    packet[begin..begin + 9].copy_from_slice(&[0, 0, 1, 0xBD, 0, 11 + length, 0x84, 0x80, 5]);
-    packet[begin + 9..begin + 16].copy_from_slice(&[
-        0x21 + 2 * (pts >> 30) as u8,
-        ((pts >> 22) % 256) as u8,
-        ((pts >> 15) % 128 * 2 + 1) as u8,
-        ((pts >> 7) % 256) as u8,
-        (pts % 128 * 2 + 1) as u8,
-        0x20,
-        0x00,
-    ]);
-    packet[begin + 16..187].copy_from_slice(segments);
-    packet
 }

@@ -1,7 +1,8 @@
 //! The sets and levels of a stream, by the clock of the programme that lists the PID.
 
-use crate::running::{set_packet, sink_of, stream_of};
-use samples::streams::packet_of;
+use crate::running::{sink_of, stream_of};
+use crate::same::same;
+use samples::streams::{packet_of, set_packet};
 use samples::words_of;
 use std::test::Fail;
 use stream_report::levels_top;
@@ -130,8 +131,8 @@ fn levels_by_the_clock(rt: HostRuntime) -> Result<(), Fail> {
         let mut out = sink_of(alloc, 0)?;
         let mut notes = sink_of(alloc, 0)?;
         let status = levels_top(alloc, &words, &mut stream, &mut out, &mut notes);
-        assert_eq!(&rt; status, ToolStatus::Done);
-        assert_eq!(&rt; out.written(), row.text.as_bytes());
+        same(&rt, status, ToolStatus::Done);
+        same(&rt, out.written(), row.text.as_bytes());
     }
     Ok(())
 }

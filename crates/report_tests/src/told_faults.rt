@@ -1,6 +1,8 @@
 //! What is wrong with the display sets of a stream.
 
-use crate::running::{set_packet, sink_of, stream_of};
+use crate::running::{sink_of, stream_of};
+use crate::same::same;
+use samples::streams::set_packet;
 use samples::words_of;
 use std::alloc::Global;
 use std::process::Abort;
@@ -186,9 +188,9 @@ struct Row {
 fn tell_rows(rt: &impl Abort, alloc: Global, rows: &[Row]) -> Result<(), Fail> {
     for row in rows {
         let told = run(alloc, FAULTS, &row.packets, &[], [0, 0])?;
-        assert_eq!(rt; told.status, ToolStatus::Done);
-        assert_eq!(rt; told.notes.written(), b"done\n".as_slice());
-        assert_eq!(rt; told.out.written(), row.text.as_bytes());
+        same(rt, told.status, ToolStatus::Done);
+        same(rt, told.notes.written(), b"done\n".as_slice());
+        same(rt, told.out.written(), row.text.as_bytes());
     }
     Ok(())
 }
@@ -384,23 +386,24 @@ fn what_ends_the_telling(rt: HostRuntime) -> Result<(), Fail> {
     let first = set_packet(0, 90_000, &NO_PAGE);
     let broken = "set 1 90000 broken NoPage\n";
     let refused = run(alloc, FAULTS, &[first, [0; 188]], &[], [0, 0])?;
-    assert_eq!(&rt;
+    same(
+        &rt,
         refused.status,
         ToolStatus::Refused(ReportFault::Stream {
             packet: 1,
-            fault: PacketFault::NoSync
-        })
+            fault: PacketFault::NoSync,
+        }),
     );
-    assert_eq!(&rt; refused.notes.written(), b"refused Stream\n".as_slice());
-    assert_eq!(&rt; refused.out.written(), broken.as_bytes());
+    same(&rt, refused.notes.written(), b"refused Stream\n".as_slice());
+    same(&rt, refused.out.written(), broken.as_bytes());
     let unread = run(alloc, FAULTS, &[first], &[], [2, 0])?;
-    assert_eq!(&rt; unread.status, ToolStatus::ReadFault(Which::First));
+    same(&rt, unread.status, ToolStatus::ReadFault(Which::First));
     let unwritten = run(alloc, FAULTS, &[first], &[], [0, 1])?;
-    assert_eq!(&rt; unwritten.status, ToolStatus::WriteFault(Which::Out));
+    same(&rt, unwritten.status, ToolStatus::WriteFault(Which::Out));
     let none = run(alloc, FAULTS, &[], &[0x47; 9], [0, 0])?;
-    assert_eq!(&rt; none.status, ToolStatus::Done);
+    same(&rt, none.status, ToolStatus::Done);
     let nothing = "sets 0 shown 0 waiting 0 broken 0 notlater 0 lost 0\n";
-    assert_eq!(&rt; none.out.written(), nothing.as_bytes());
+    same(&rt, none.out.written(), nothing.as_bytes());
     Ok(())
 }
 
@@ -418,8 +421,8 @@ fn words_that_are_refused(rt: HostRuntime) -> Result<(), Fail> {
         "faults sd 256 1 -stream.ts faults.txt",
     ] {
         let usage = run(alloc, text, &[], &[], [1, 1])?;
-        assert_eq!(&rt; usage.status, ToolStatus::Usage);
-        assert_eq!(&rt; usage.notes.written(), b"usage\n".as_slice());
+        same(&rt, usage.status, ToolStatus::Usage);
+        same(&rt, usage.notes.written(), b"usage\n".as_slice());
     }
     Ok(())
 }

@@ -1,6 +1,8 @@
 //! The sets and levels of a stream, by the times at which its packets arrive.
 
-use crate::running::{set_packet, sink_of, stream_of};
+use crate::running::{sink_of, stream_of};
+use crate::same::same;
+use samples::streams::set_packet;
 use samples::words_of;
 use std::alloc::Global;
 use std::test::Fail;
@@ -145,9 +147,9 @@ fn levels_of_three_packets(rt: HostRuntime) -> Result<(), Fail> {
     ];
     for row in &rows {
         let told = run(alloc, row.words, &row.packets, &[], [0, 0])?;
-        assert_eq!(&rt; told.status, ToolStatus::Done);
-        assert_eq!(&rt; told.notes.written(), b"done\n".as_slice());
-        assert_eq!(&rt; told.out.written(), row.text.as_bytes());
+        same(&rt, told.status, ToolStatus::Done);
+        same(&rt, told.notes.written(), b"done\n".as_slice());
+        same(&rt, told.out.written(), row.text.as_bytes());
     }
     Ok(())
 }
@@ -160,27 +162,29 @@ fn what_ends_the_telling(rt: HostRuntime) -> Result<(), Fail> {
     let alloc = rt.alloc();
     let first = set_packet(0, 90_000, &EMPTY);
     let refused = run(alloc, LEVELS, &[first, [0; 188]], &[], [0, 0])?;
-    assert_eq!(&rt;
+    same(
+        &rt,
         refused.status,
         ToolStatus::Refused(ReportFault::Stream {
             packet: 1,
-            fault: PacketFault::NoSync
-        })
+            fault: PacketFault::NoSync,
+        }),
     );
-    assert_eq!(&rt; refused.notes.written(), b"refused Stream\n".as_slice());
-    assert_eq!(&rt;
+    same(&rt, refused.notes.written(), b"refused Stream\n".as_slice());
+    same(
+        &rt,
         refused.out.written(),
-        b"set 90000 shown 31 31\n".as_slice()
+        b"set 90000 shown 31 31\n".as_slice(),
     );
     let cut = run(alloc, LEVELS, &[first], &[0x47; 9], [0, 0])?;
-    assert_eq!(&rt; cut.status, ToolStatus::Done);
+    same(&rt, cut.status, ToolStatus::Done);
     let unread = run(alloc, LEVELS, &[first], &[], [2, 0])?;
-    assert_eq!(&rt; unread.status, ToolStatus::ReadFault(Which::First));
+    same(&rt, unread.status, ToolStatus::ReadFault(Which::First));
     let unwritten = run(alloc, LEVELS, &[first], &[], [0, 1])?;
-    assert_eq!(&rt; unwritten.status, ToolStatus::WriteFault(Which::Out));
+    same(&rt, unwritten.status, ToolStatus::WriteFault(Which::Out));
     let none = run(alloc, LEVELS, &[], &[], [0, 0])?;
-    assert_eq!(&rt; none.status, ToolStatus::Done);
-    assert_eq!(&rt; none.out.written(), b"peak 0\nbreach none\n".as_slice());
+    same(&rt, none.status, ToolStatus::Done);
+    same(&rt, none.out.written(), b"peak 0\nbreach none\n".as_slice());
     Ok(())
 }
 
@@ -201,8 +205,8 @@ fn words_that_are_refused(rt: HostRuntime) -> Result<(), Fail> {
         "levels sd 256 1 1504000 -stream.ts levels.txt",
     ] {
         let usage = run(alloc, text, &[], &[], [1, 1])?;
-        assert_eq!(&rt; usage.status, ToolStatus::Usage);
-        assert_eq!(&rt; usage.notes.written(), b"usage\n".as_slice());
+        same(&rt, usage.status, ToolStatus::Usage);
+        same(&rt, usage.notes.written(), b"usage\n".as_slice());
     }
     Ok(())
 }

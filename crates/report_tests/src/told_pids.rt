@@ -3,6 +3,8 @@
 ghost use Rattle.std.specs.Prelude.{◌≤◌, length};
 
 use crate::running::{sink_of, stream_of};
+use crate::same::same;
+use samples::streams::set_packet;
 use samples::words_of;
 use std::alloc::Global;
 use std::test::Fail;
@@ -38,27 +40,11 @@ const TWICE: [u8; 24] = [
     0x0F, 0x10, 0x00, 0x04, 0x00, 0x02, 0x00, 0x0B,
 ];
 
-/// A transport packet of PID 256 and more with a PES packet of these segments at its end, of 17
-/// bytes more.
+/// A packet of PID 256 and more with a set.
 fn packet_of(more: u8, counter: u8, pts: u32, segments: &[u8]) -> [u8; 188]
     requires { length segments.now ≤ 160 }
 {
-    let length = segments.len() as u8;
-    let begin = 171 - segments.len();
-    let mut packet = [0xFF; 188];
-    packet[..6].copy_from_slice(&[0x47, 0x41, more, 0x30 + counter % 16, 166 - length, 0x00]);
-    packet[begin..begin + 9].copy_from_slice(&[0, 0, 1, 0xBD, 0, 11 + length, 0x84, 0x80, 5]);
-    packet[begin + 9..begin + 16].copy_from_slice(&[
-        0x21 + 2 * (pts >> 30) as u8,
-        ((pts >> 22) % 256) as u8,
-        ((pts >> 15) % 128 * 2 + 1) as u8,
-        ((pts >> 7) % 256) as u8,
-        (pts % 128 * 2 + 1) as u8,
-        0x20,
-        0x00,
-    ]);
-    packet[begin + 16..187].copy_from_slice(segments);
-    packet
+    changed(set_packet(counter, pts, segments), 2, more)
 }
 
 /// The same packet with another byte at a place.
@@ -159,9 +145,9 @@ fn pages_of_each_pid(rt: HostRuntime) -> Result<(), Fail> {
     ];
     for row in &rows {
         let told = run(alloc, PIDS, &row.packets, &[], [0, 0])?;
-        assert_eq!(&rt; told.status, ToolStatus::Done);
-        assert_eq!(&rt; told.notes.written(), b"done\n".as_slice());
-        assert_eq!(&rt; told.out.written(), row.text.as_bytes());
+        same(&rt, told.status, ToolStatus::Done);
+        same(&rt, told.notes.written(), b"done\n".as_slice());
+        same(&rt, told.out.written(), row.text.as_bytes());
     }
     Ok(())
 }
@@ -173,27 +159,28 @@ fn what_ends_the_telling(rt: HostRuntime) -> Result<(), Fail> {
     let first = packet_of(0, 0, 90_000, &PAGE_ONE);
     let text = "pid 256 units 1 first 90000 last 90000\npage 1 composition 1 ancillary 0\n";
     let refused = run(alloc, PIDS, &[first, [0; 188], first], &[], [0, 0])?;
-    assert_eq!(&rt;
+    same(
+        &rt,
         refused.status,
         ToolStatus::Refused(ReportFault::Stream {
             packet: 1,
-            fault: PacketFault::NoSync
-        })
+            fault: PacketFault::NoSync,
+        }),
     );
-    assert_eq!(&rt; refused.notes.written(), b"refused Stream\n".as_slice());
-    assert_eq!(&rt; refused.out.written(), text.as_bytes());
+    same(&rt, refused.notes.written(), b"refused Stream\n".as_slice());
+    same(&rt, refused.out.written(), text.as_bytes());
     // The second read has the end of the first packet.
     let unread = run(alloc, PIDS, &[first], &[], [3, 0])?;
-    assert_eq!(&rt; unread.status, ToolStatus::ReadFault(Which::First));
-    assert_eq!(&rt; unread.out.written(), text.as_bytes());
+    same(&rt, unread.status, ToolStatus::ReadFault(Which::First));
+    same(&rt, unread.out.written(), text.as_bytes());
     let unwritten = run(alloc, PIDS, &[first], &[], [0, 1])?;
-    assert_eq!(&rt; unwritten.status, ToolStatus::WriteFault(Which::Out));
+    same(&rt, unwritten.status, ToolStatus::WriteFault(Which::Out));
     let cut = run(alloc, PIDS, &[first], &[0x47; 9], [0, 0])?;
-    assert_eq!(&rt; cut.status, ToolStatus::Done);
-    assert_eq!(&rt; cut.out.written(), text.as_bytes());
+    same(&rt, cut.status, ToolStatus::Done);
+    same(&rt, cut.out.written(), text.as_bytes());
     let none = run(alloc, PIDS, &[], &[], [0, 0])?;
-    assert_eq!(&rt; none.status, ToolStatus::Done);
-    assert_eq!(&rt; none.out.written().len(), 0);
+    same(&rt, none.status, ToolStatus::Done);
+    same(&rt, none.out.written().len(), 0);
     Ok(())
 }
 
@@ -212,7 +199,7 @@ fn more_pages_than_are_told(rt: HostRuntime) -> Result<(), Fail> {
         packets.push(packet_of(0, number % 16, 1, &composition_of(69 - number)))?;
     }
     let told = run(alloc, PIDS, packets.as_slice(), &[], [0, 0])?;
-    assert_eq!(&rt; told.status, ToolStatus::Done);
+    same(&rt, told.status, ToolStatus::Done);
     let text = told.out.written();
     assert!(&rt;
         text.starts_with(b"pid 256 units 65 first 1 last 1\npage 5 composition 1 ancillary 0\n")
@@ -245,12 +232,12 @@ fn words_that_are_refused(rt: HostRuntime) -> Result<(), Fail> {
         "pids -stream.ts pids.txt",
     ] {
         let usage = run(alloc, text, &[], &[], [1, 1])?;
-        assert_eq!(&rt; usage.status, ToolStatus::Usage);
-        assert_eq!(&rt; usage.notes.written(), b"usage\n".as_slice());
-        assert_eq!(&rt; pids_inputs(&words_of(alloc, text)?).out, None);
+        same(&rt, usage.status, ToolStatus::Usage);
+        same(&rt, usage.notes.written(), b"usage\n".as_slice());
+        same(&rt, pids_inputs(&words_of(alloc, text)?).out, None);
     }
     let places = pids_inputs(&words_of(alloc, PIDS)?);
-    assert_eq!(&rt; places.first, Some(1));
-    assert_eq!(&rt; places.out, Some(2));
+    same(&rt, places.first, Some(1));
+    same(&rt, places.out, Some(2));
     Ok(())
 }

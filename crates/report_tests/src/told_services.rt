@@ -3,6 +3,7 @@
 ghost use Rattle.std.specs.Prelude.{◌≤◌};
 
 use crate::running::{sink_of, stream_of};
+use crate::same::same;
 use psi_tables::crc;
 use samples::streams::packet_of;
 use samples::words_of;
@@ -130,9 +131,9 @@ fn is_told<R: Abort>(
     let mut out = sink_of(alloc, 0)?;
     let mut notes = sink_of(alloc, 0)?;
     let status = pids_top(alloc, &words, &mut stream, &mut out, &mut notes);
-    assert_eq!(rt; status, ToolStatus::Done);
-    assert_eq!(rt; notes.written(), b"done\n".as_slice());
-    assert_eq!(rt; out.written(), text);
+    same(&rt, status, ToolStatus::Done);
+    same(&rt, notes.written(), b"done\n".as_slice());
+    same(&rt, out.written(), text);
     Ok(())
 }
 

@@ -1,3 +1,5 @@
+ghost use Rattle.std.specs.Prelude.{◌≤◌, length};
+
 use std::alloc::Global;
 use sub_base::NoMemory;
 
@@ -72,6 +74,21 @@ pub fn time_bytes(pts: u64) -> [u8; 5] {
         ((pts >> 7) % 256) as u8,
         (pts % 128 * 2 + 1) as u8,
     ]
+}
+
+/// A packet of PID 256 with a whole PES packet of these segments at its end, of 17 bytes more.
+pub fn set_packet(counter: u8, pts: u32, segments: &[u8]) -> [u8; 188]
+    requires { length segments.now ≤ 160 }
+{
+    let length = segments.len() as u8;
+    let begin = 171 - segments.len();
+    let mut packet = [0xFF; 188];
+    packet[..6].copy_from_slice(&[0x47, 0x41, 0x00, 0x30 + counter % 16, 166 - length, 0x00]);
+    packet[begin..begin + 9].copy_from_slice(&[0, 0, 1, 0xBD, 0, 11 + length, 0x84, 0x80, 5]);
+    packet[begin + 9..begin + 14].copy_from_slice(&time_bytes(u64::from(pts)));
+    packet[begin + 14..begin + 16].copy_from_slice(&[0x20, 0x00]);
+    packet[begin + 16..187].copy_from_slice(segments);
+    packet
 }
 
 /// A PES packet of these segments, put into `unit`: 17 bytes and theirs, of which there are at most

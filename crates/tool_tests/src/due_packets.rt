@@ -1,5 +1,6 @@
 //! What of a script's packets is due before its later records are known.
 
+use crate::same::same;
 use bitmap_font::Font;
 use cue_list::Script;
 use live_plan::slots_by;
@@ -38,16 +39,16 @@ fn packets_of<R: Abort>(rt: &R, alloc: Global, text: &str) -> MemSink {
         panic!(rt; "the script is sent");
     };
     let mut out = MemSink::make(alloc, 1_000_000, Vec::new(alloc));
-    assert_eq!(rt; stream.write(alloc, &mut out).is_ok(), true);
+    same(rt, stream.write(alloc, &mut out).is_ok(), true);
     out
 }
 
 #[test]
 fn slots_up_to_a_tick(rt: HostRuntime) -> Result<(), Fail> {
-    assert_eq!(&rt; slots_by(0, 90, 90_000), 1_001);
-    assert_eq!(&rt; slots_by(0, 90, 89_999), 1_000);
-    assert_eq!(&rt; slots_by(90, 90, 89), 0);
-    assert_eq!(&rt; slots_by(90, 90, 90), 1);
+    same(&rt, slots_by(0, 90, 90_000), 1_001);
+    same(&rt, slots_by(0, 90, 89_999), 1_000);
+    same(&rt, slots_by(90, 90, 89), 0);
+    same(&rt, slots_by(90, 90, 90), 1);
     Ok(())
 }
 
@@ -58,8 +59,8 @@ fn a_record_at_the_horizon_changes_what_is_due(rt: HostRuntime) -> Result<(), Fa
     let near = packets_of(&rt, alloc, AT_THE_HORIZON);
     let far = packets_of(&rt, alloc, ABOVE_THE_HORIZON);
     let due = before.written().get(..DUE);
-    assert_eq!(&rt; due.is_some(), true);
-    assert_eq!(&rt; near.written().get(..DUE) == due, false);
-    assert_eq!(&rt; far.written().get(..DUE) == due, true);
+    same(&rt, due.is_some(), true);
+    same(&rt, near.written().get(..DUE) == due, false);
+    same(&rt, far.written().get(..DUE) == due, true);
     Ok(())
 }

@@ -3,6 +3,7 @@
 ghost use Rattle.std.specs.Prelude.{◌≤◌};
 
 use crate::running::{sink_of, source_of, stream_of};
+use crate::same::same;
 use samples::words_of;
 use service_mux::{MuxFault, mux_top, take_top};
 use std::alloc::Global;
@@ -118,12 +119,17 @@ fn a_multiplex_has_tables_and_frames(rt: HostRuntime) -> Result<(), Fail> {
             most,
             NONE_FAILS,
         )?;
-        assert_eq!(&rt; muxed.status, ToolStatus::Done);
-        assert_eq!(&rt; muxed.notes.written(), b"done\n".as_slice());
-        assert_eq!(&rt; heads_of(alloc, &muxed.out)?.as_slice(), wanted.as_slice());
-        assert_eq!(&rt;
+        same(&rt, muxed.status, ToolStatus::Done);
+        same(&rt, muxed.notes.written(), b"done\n".as_slice());
+        same(
+            &rt,
+            heads_of(alloc, &muxed.out)?.as_slice(),
+            wanted.as_slice(),
+        );
+        same(
+            &rt,
             muxed.out.written().get(752..940),
-            Some(packet_of(256, 0, 1).as_slice())
+            Some(packet_of(256, 0, 1).as_slice()),
         );
     }
     Ok(())
@@ -148,8 +154,12 @@ fn the_longer_stream_is_joined_whole(rt: HostRuntime) -> Result<(), Fail> {
     let second = [packet_of(257, 0, 2), packet_of(257, 1, 3)];
     let alloc = rt.alloc();
     let muxed = run(alloc, WORDS, &first, &second, 1_000, NONE_FAILS)?;
-    assert_eq!(&rt; muxed.status, ToolStatus::Done);
-    assert_eq!(&rt; heads_of(alloc, &muxed.out)?.as_slice(), wanted.as_slice());
+    same(&rt, muxed.status, ToolStatus::Done);
+    same(
+        &rt,
+        heads_of(alloc, &muxed.out)?.as_slice(),
+        wanted.as_slice(),
+    );
     Ok(())
 }
 
@@ -160,9 +170,9 @@ fn tables_come_again_each_128_frames(rt: HostRuntime) -> Result<(), Fail> {
     let first = [packet_of(256, 0, 1); 129];
     let muxed = run(alloc, WORDS, &first, &[], 100_000, NONE_FAILS)?;
     let heads = heads_of(alloc, &muxed.out)?;
-    assert_eq!(&rt; heads.get(3 + 3 * 126), Some(&(8191, 0)));
-    assert_eq!(&rt; heads.get(3 + 3 * 127), Some(&(8191, 0)));
-    assert_eq!(&rt; heads.get(3 + 3 * 128), Some(&(0, 2)));
+    same(&rt, heads.get(3 + 3 * 126), Some(&(8191, 0)));
+    same(&rt, heads.get(3 + 3 * 127), Some(&(8191, 0)));
+    same(&rt, heads.get(3 + 3 * 128), Some(&(0, 2)));
     Ok(())
 }
 
@@ -189,8 +199,8 @@ fn services_are_taken_out_again(rt: HostRuntime) -> Result<(), Fail> {
         let mut out = sink_of(alloc, 0)?;
         let mut notes = sink_of(alloc, 0)?;
         let status = take_top(alloc, &words, &mut stream, &mut out, &mut notes);
-        assert_eq!(&rt; status, ToolStatus::Done);
-        assert_eq!(&rt; out.written(), wanted.as_flattened());
+        same(&rt, status, ToolStatus::Done);
+        same(&rt, out.written(), wanted.as_flattened());
     }
     Ok(())
 }
@@ -228,9 +238,9 @@ fn packets_without_the_sync_byte_are_refused(rt: HostRuntime) -> Result<(), Fail
     ];
     for (first, second, status, count, note) in rows {
         let muxed = run(rt.alloc(), WORDS, &first, &second, 1_000, NONE_FAILS)?;
-        assert_eq!(&rt; muxed.status, status);
-        assert_eq!(&rt; muxed.out.written().len(), 188 * count);
-        assert_eq!(&rt; muxed.notes.written(), note);
+        same(&rt, muxed.status, status);
+        same(&rt, muxed.out.written().len(), 188 * count);
+        same(&rt, muxed.notes.written(), note);
     }
     Ok(())
 }
@@ -276,7 +286,7 @@ fn failing_sources_and_sinks_are_told(rt: HostRuntime) -> Result<(), Fail> {
             1_000,
             failing,
         )?;
-        assert_eq!(&rt; muxed.status, status);
+        same(&rt, muxed.status, status);
     }
     Ok(())
 }
@@ -308,9 +318,9 @@ fn other_words_are_no_command(rt: HostRuntime) -> Result<(), Fail> {
             1_000,
             NONE_FAILS,
         )?;
-        assert_eq!(&rt; muxed.status, ToolStatus::Usage);
-        assert_eq!(&rt; muxed.notes.written(), b"usage\n".as_slice());
-        assert!(&rt; muxed.out.written().is_empty());
+        same(&rt, muxed.status, ToolStatus::Usage);
+        same(&rt, muxed.notes.written(), b"usage\n".as_slice());
+        same(&rt, muxed.out.written(), b"".as_slice());
     }
     Ok(())
 }

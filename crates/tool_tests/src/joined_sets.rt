@@ -3,6 +3,7 @@
 use crate::joined_streams::{
     AT_270000, AT_360000, CLEARING, SHOWING, join, packet_with, picture_stream,
 };
+use crate::same::{same, same_at};
 use command_words::InputPlaces;
 use samples::words_of;
 use splice::{SpliceFault, splice_inputs};
@@ -56,7 +57,7 @@ fn mode_changes(rt: HostRuntime) -> Result<(), Fail> {
     for (packets, count, status) in cases {
         let second = packets.get(..count).unwrap_or(&[]);
         let joined = join(alloc, text, &first, second, [0; 3])?;
-        assert_eq!(rt; joined.status, status);
+        same(&rt, joined.status, status);
     }
     Ok(())
 }
@@ -80,8 +81,8 @@ fn packets_with_new_times(rt: HostRuntime) -> Result<(), Fail> {
         "splice sd 256 1 8589934591 8590204592 a a o",
     ] {
         let joined = join(alloc, text, &stream, &stream, [0; 3])?;
-        assert_eq!(rt; joined.status, ToolStatus::Done, "{text}");
-        assert_eq!(rt; joined.out.written(), wanted.as_flattened(), "{text}");
+        same_at(&rt, text, joined.status, ToolStatus::Done);
+        same_at(&rt, text, joined.out.written(), wanted.as_flattened());
     }
     Ok(())
 }
@@ -105,13 +106,18 @@ fn files_among_the_words(rt: HostRuntime) -> Result<(), Fail> {
         second: None,
         out: None,
     };
-    assert_eq!(rt; places_of(alloc, "splice sd 256 1 0 270000 a b o")?, places);
-    assert_eq!(rt;
+    same(
+        &rt,
+        places_of(alloc, "splice sd 256 1 0 270000 a b o")?,
+        places,
+    );
+    same(
+        &rt,
         places_of(
             alloc,
-            "splice large 8190 65535 8589934591 17179869183 a b o"
+            "splice large 8190 65535 8589934591 17179869183 a b o",
         )?,
-        places
+        places,
     );
     for text in [
         "splice wide 256 1 0 270000 a b o",
@@ -123,7 +129,7 @@ fn files_among_the_words(rt: HostRuntime) -> Result<(), Fail> {
         "splice sd 256 1 0 270000 a b",
         "pair sd 256 1 0 270000 a b o",
     ] {
-        assert_eq!(rt; places_of(alloc, text)?, nowhere, "{text}");
+        same_at(&rt, text, places_of(alloc, text)?, nowhere);
     }
     Ok(())
 }

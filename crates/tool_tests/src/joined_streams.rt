@@ -1,6 +1,7 @@
 //! Two streams that are joined at a cut.
 
 use crate::running::{sink_of, stream_of};
+use crate::same::{same, same_at};
 use samples::words_of;
 use splice::{SpliceFault, splice_top};
 use std::alloc::Global;
@@ -101,8 +102,8 @@ fn a_stream_with_itself(rt: HostRuntime) -> Result<(), Fail> {
         &stream,
         [0; 3],
     )?;
-    assert_eq!(rt; joined.status, ToolStatus::Done);
-    assert_eq!(rt; joined.notes.written(), b"done\n".as_slice());
+    same(&rt, joined.status, ToolStatus::Done);
+    same(&rt, joined.notes.written(), b"done\n".as_slice());
     let wanted = [
         packet_with(0, &SHOWING, None),
         packet_with(1, &CLEARING, None),
@@ -110,10 +111,10 @@ fn a_stream_with_itself(rt: HostRuntime) -> Result<(), Fail> {
         packet_with(3, &CLEARING, Some(&AT_360000)),
     ];
     let (packets, rest) = joined.out.written().as_chunks::<188>();
-    assert_eq!(rt; rest.len(), 0);
-    assert_eq!(rt; packets.len(), 4);
+    same(&rt, rest.len(), 0);
+    same(&rt, packets.len(), 4);
     for (packet, wanted) in packets.iter().zip(&wanted) {
-        assert_eq!(rt; packet.as_slice(), wanted.as_slice());
+        same(&rt, packet.as_slice(), wanted.as_slice());
     }
     Ok(())
 }
@@ -137,8 +138,8 @@ fn cuts_of_a_stream_with_itself(rt: HostRuntime) -> Result<(), Fail> {
     for (text, packets, status, bytes) in cases {
         let second = stream.get(..packets).unwrap_or(&[]);
         let joined = join(alloc, text, &stream, second, [0; 3])?;
-        assert_eq!(rt; joined.status, status, "{text}");
-        assert_eq!(rt; joined.out.written().len(), bytes, "{text}");
+        same_at(&rt, text, joined.status, status);
+        same_at(&rt, text, joined.out.written().len(), bytes);
     }
     let alone = join(
         alloc,
@@ -149,7 +150,7 @@ fn cuts_of_a_stream_with_itself(rt: HostRuntime) -> Result<(), Fail> {
     )?;
     let (packets, _) = alone.out.written().as_chunks::<188>();
     for (packet, wanted) in packets.iter().zip(&stream) {
-        assert_eq!(rt; packet.as_slice(), wanted.as_slice());
+        same(&rt, packet.as_slice(), wanted.as_slice());
     }
     Ok(())
 }
@@ -179,23 +180,23 @@ fn streams_that_are_not_joined(rt: HostRuntime) -> Result<(), Fail> {
     ];
     for (one, two, fails, note) in cases {
         let joined = join(alloc, text, one, two, fails)?;
-        assert_eq!(rt; joined.notes.written(), note.as_bytes(), "{note}");
-        assert_eq!(rt; joined.out.written().len(), 0, "{note}");
+        same_at(&rt, note, joined.notes.written(), note.as_bytes());
+        same_at(&rt, note, joined.out.written().len(), 0);
     }
     let refused = join(alloc, text, &lossy, &good, [0; 3])?;
     let fault = SpliceFault::Lost {
         second: false,
         packet: 1,
     };
-    assert_eq!(rt; refused.status, ToolStatus::Refused(fault));
+    same(&rt, refused.status, ToolStatus::Refused(fault));
     let refused = join(alloc, text, &good, &bad, [0; 3])?;
     let fault = SpliceFault::Packet {
         second: true,
         packet: 1,
         fault: stream_syntax::PacketFault::NoSync,
     };
-    assert_eq!(rt; refused.status, ToolStatus::Refused(fault));
+    same(&rt, refused.status, ToolStatus::Refused(fault));
     let failed = join(alloc, text, &good, &good, [0, 0, 1])?;
-    assert_eq!(rt; failed.status, ToolStatus::WriteFault(Which::Out));
+    same(&rt, failed.status, ToolStatus::WriteFault(Which::Out));
     Ok(())
 }

@@ -3,6 +3,10 @@
 //! There is no code here but tests; each expected value was worked out by hand.
 #![tactic(auto)]
 
+// A comparison as a call.
+#[cfg(test)]
+mod same;
+
 // Words, sources, sinks and packets for a command.
 #[cfg(test)]
 mod running;

@@ -3,6 +3,7 @@
 ghost use Rattle.std.specs.Prelude.{◌≤◌};
 
 use crate::running::{sink_of, source_of};
+use crate::same::same;
 use bitmap_font::Font;
 use cue_list::Script;
 use live_plan::{LiveFault, live_top};
@@ -93,12 +94,16 @@ fn compiled(alloc: Global, text: &str) -> Result<MemSink, Fail> {
 fn records_at_the_horizon(rt: HostRuntime) -> Result<(), Fail> {
     let alloc = rt.alloc();
     let accepted = compiled(alloc, ACCEPTED)?;
-    assert_eq!(&rt; accepted.written().is_empty(), false);
+    same(&rt, accepted.written().is_empty(), false);
     for most in [1, 100, 4_096, 100_000] {
         let told = run_of(alloc, AT_THE_HORIZON, most)?;
-        assert_eq!(&rt; told.status, ToolStatus::Done);
-        assert_eq!(&rt; told.notes.written(), b"refused 9 Early\ndone\n".as_slice());
-        assert_eq!(&rt; told.out.written() == accepted.written(), true);
+        same(&rt, told.status, ToolStatus::Done);
+        same(
+            &rt,
+            told.notes.written(),
+            b"refused 9 Early\ndone\n".as_slice(),
+        );
+        same(&rt, told.out.written() == accepted.written(), true);
     }
     Ok(())
 }
@@ -110,16 +115,16 @@ fn what_is_due_is_there(rt: HostRuntime) -> Result<(), Fail> {
     let text = Vec::from_slice(alloc, UP_TO_A_TICK.as_bytes())?;
     let mut first = MemSource::make(alloc, text, 4_096, vec![in alloc; 2]?);
     let told = run(alloc, &mut first, 0, 0)?;
-    assert_eq!(&rt; told.status, ToolStatus::ReadFault(Which::First));
-    assert_eq!(&rt; told.notes.written(), b"read first\n".as_slice());
+    same(&rt, told.status, ToolStatus::ReadFault(Which::First));
+    same(&rt, told.notes.written(), b"read first\n".as_slice());
     let written = told.out.written();
-    assert_eq!(&rt; written.len(), DUE);
+    same(&rt, written.len(), DUE);
     let before = written.get(FIRST_OF_THE_SET - 188..FIRST_OF_THE_SET - 185);
-    assert_eq!(&rt; before, Some([0x47, 0x1F, 0xFF].as_slice()));
+    same(&rt, before, Some([0x47, 0x1F, 0xFF].as_slice()));
     let first = written.get(FIRST_OF_THE_SET..FIRST_OF_THE_SET + 3);
-    assert_eq!(&rt; first, Some([0x47, 0x41, 0x00].as_slice()));
+    same(&rt, first, Some([0x47, 0x41, 0x00].as_slice()));
     let whole = compiled(alloc, ACCEPTED)?;
-    assert_eq!(&rt; Some(written) == whole.written().get(..DUE), true);
+    same(&rt, Some(written) == whole.written().get(..DUE), true);
     Ok(())
 }
 
@@ -128,9 +133,9 @@ fn what_is_due_is_there(rt: HostRuntime) -> Result<(), Fail> {
 fn records_that_are_refused(rt: HostRuntime) -> Result<(), Fail> {
     let alloc = rt.alloc();
     let told = run_of(alloc, REFUSED, 7)?;
-    assert_eq!(&rt; told.status, ToolStatus::Refused(LiveFault::NoEpoch));
-    assert_eq!(&rt; told.notes.written(), REFUSED_LINES.as_bytes());
-    assert_eq!(&rt; told.out.written().len(), 0);
+    same(&rt, told.status, ToolStatus::Refused(LiveFault::NoEpoch));
+    same(&rt, told.notes.written(), REFUSED_LINES.as_bytes());
+    same(&rt, told.out.written().len(), 0);
     Ok(())
 }
 
@@ -140,16 +145,20 @@ fn sinks_that_fail(rt: HostRuntime) -> Result<(), Fail> {
     let alloc = rt.alloc();
     let mut script = source_of(alloc, AT_THE_HORIZON.as_bytes(), 100)?;
     let unwritten = run(alloc, &mut script, 1, 0)?;
-    assert_eq!(&rt; unwritten.status, ToolStatus::WriteFault(Which::Out));
-    assert_eq!(&rt; unwritten.notes.written(), b"write out\n".as_slice());
+    same(&rt, unwritten.status, ToolStatus::WriteFault(Which::Out));
+    same(&rt, unwritten.notes.written(), b"write out\n".as_slice());
     let mut script = source_of(alloc, AT_THE_HORIZON.as_bytes(), 100)?;
     let untold = run(alloc, &mut script, 0, 1)?;
-    assert_eq!(&rt; untold.status, ToolStatus::WriteFault(Which::Notes));
-    assert_eq!(&rt; untold.notes.written().len(), 0);
-    assert_eq!(&rt; untold.out.written().len(), DUE);
+    same(&rt, untold.status, ToolStatus::WriteFault(Which::Notes));
+    same(&rt, untold.notes.written().len(), 0);
+    same(&rt, untold.out.written().len(), DUE);
     let mut script = source_of(alloc, AT_THE_HORIZON.as_bytes(), 100)?;
     let at_the_end = run(alloc, &mut script, 0, 2)?;
-    assert_eq!(&rt; at_the_end.status, ToolStatus::WriteFault(Which::Notes));
-    assert_eq!(&rt; at_the_end.notes.written(), b"refused 9 Early\n".as_slice());
+    same(&rt, at_the_end.status, ToolStatus::WriteFault(Which::Notes));
+    same(
+        &rt,
+        at_the_end.notes.written(),
+        b"refused 9 Early\n".as_slice(),
+    );
     Ok(())
 }

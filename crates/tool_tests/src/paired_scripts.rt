@@ -1,6 +1,7 @@
 //! Two languages that are sent on one PID.
 
 use crate::running::{sink_of, source_of};
+use crate::same::same;
 use page_pair::{PairFault, pair_top};
 use samples::words_of;
 use std::alloc::Global;
@@ -134,9 +135,9 @@ fn a_script_and_itself(rt: HostRuntime) -> Result<(), Fail> {
     let alloc = rt.alloc();
     let script = SCRIPT.as_bytes();
     let sent = run(&rt, alloc, PAIR, script, script, 0)?;
-    assert_eq!(&rt; sent.status, ToolStatus::Done);
-    assert_eq!(&rt; sent.notes.written(), b"done\n".as_slice());
-    assert_eq!(&rt; sent.out.written(), packets(alloc)?.as_slice());
+    same(&rt, sent.status, ToolStatus::Done);
+    same(&rt, sent.notes.written(), b"done\n".as_slice());
+    same(&rt, sent.out.written(), packets(alloc)?.as_slice());
     Ok(())
 }
 
@@ -150,8 +151,8 @@ fn pictures_of_both_pages(rt: HostRuntime) -> Result<(), Fail> {
         "pairdump sd 256 2 3 2 both.ts b.txt 90000 180000",
     ] {
         let told = run(&rt, alloc, line, stream.as_slice(), &[], 0)?;
-        assert_eq!(&rt; told.status, ToolStatus::Done);
-        assert_eq!(&rt; told.out.written(), PICTURES.as_bytes());
+        same(&rt, told.status, ToolStatus::Done);
+        same(&rt, told.out.written(), PICTURES.as_bytes());
     }
     Ok(())
 }
@@ -162,15 +163,17 @@ fn scripts_of_other_pictures(rt: HostRuntime) -> Result<(), Fail> {
     let alloc = rt.alloc();
     let script = SCRIPT.as_bytes();
     let sent = run(&rt, alloc, PAIR, script, OTHER_PICTURE.as_bytes(), 0)?;
-    assert_eq!(&rt; sent.status, ToolStatus::Done);
-    assert_eq!(&rt; sent.out.written().len(), 376);
-    assert_eq!(&rt;
+    same(&rt, sent.status, ToolStatus::Done);
+    same(&rt, sent.out.written().len(), 376);
+    same(
+        &rt,
         part(&sent.out, 4, 13),
-        [2, 0, 0xFF, 0, 0, 1, 0xBD, 0, 175].as_slice()
+        [2, 0, 0xFF, 0, 0, 1, 0xBD, 0, 175].as_slice(),
     );
-    assert_eq!(&rt;
+    same(
+        &rt,
         part(&sent.out, 331, 337),
-        [0, 0, 1, 0xBD, 0, 39].as_slice()
+        [0, 0, 1, 0xBD, 0, 39].as_slice(),
     );
     Ok(())
 }
@@ -181,17 +184,18 @@ fn pairs_that_are_refused(rt: HostRuntime) -> Result<(), Fail> {
     let alloc = rt.alloc();
     let script = SCRIPT.as_bytes();
     let uneven = run(&rt, alloc, PAIR, script, OTHER_END.as_bytes(), 0)?;
-    assert_eq!(&rt;
+    same(
+        &rt,
         uneven.status,
-        ToolStatus::Refused(PairFault::Uneven { set: 1 })
+        ToolStatus::Refused(PairFault::Uneven { set: 1 }),
     );
-    assert_eq!(&rt; uneven.notes.written(), b"refused Uneven\n".as_slice());
-    assert_eq!(&rt; uneven.out.written().len(), 0);
+    same(&rt, uneven.notes.written(), b"refused Uneven\n".as_slice());
+    same(&rt, uneven.out.written().len(), 0);
     let unwritten = run(&rt, alloc, PAIR, script, script, 1)?;
-    assert_eq!(&rt; unwritten.status, ToolStatus::WriteFault(Which::Out));
-    assert_eq!(&rt; unwritten.notes.written(), b"write out\n".as_slice());
+    same(&rt, unwritten.status, ToolStatus::WriteFault(Which::Out));
+    same(&rt, unwritten.notes.written(), b"write out\n".as_slice());
     let same_pages = "pair sd 256 1 2 1 a.csv b.csv both.ts";
     let usage = run(&rt, alloc, same_pages, script, script, 0)?;
-    assert_eq!(&rt; usage.status, ToolStatus::Usage);
+    same(&rt, usage.status, ToolStatus::Usage);
     Ok(())
 }

@@ -3,6 +3,7 @@
 ghost use Rattle.std.specs.Prelude.{◌≤◌};
 
 use crate::running::{sink_of, stream_of};
+use crate::same::same;
 use samples::words_of;
 use service_mux::{TakeFault, take_top};
 use std::alloc::Global;
@@ -132,9 +133,9 @@ fn are_taken<R: Abort>(
             most,
             [0; 3],
         )?;
-        assert_eq!(rt; taken.status, ToolStatus::Done);
-        assert_eq!(rt; taken.notes.written(), b"done\n".as_slice());
-        assert_eq!(rt; taken.out.written(), wanted.as_slice());
+        same(&rt, taken.status, ToolStatus::Done);
+        same(&rt, taken.notes.written(), b"done\n".as_slice());
+        same(&rt, taken.out.written(), wanted.as_slice());
     }
     Ok(())
 }
@@ -148,12 +149,17 @@ fn are_none<R: Abort>(
     packets: &[[u8; 188]],
 ) -> Result<(), Fail> {
     let taken = run(alloc, text, packets, &[], 1_000, [0; 3])?;
-    assert_eq!(rt;
+    same(
+        &rt,
         taken.status,
-        ToolStatus::Refused(TakeFault::NoService { number })
+        ToolStatus::Refused(TakeFault::NoService { number }),
     );
-    assert_eq!(rt; taken.notes.written(), b"refused NoService\n".as_slice());
-    assert!(rt; taken.out.written().is_empty());
+    same(
+        &rt,
+        taken.notes.written(),
+        b"refused NoService\n".as_slice(),
+    );
+    same(&rt, taken.out.written(), b"".as_slice());
     Ok(())
 }
 
@@ -359,9 +365,9 @@ fn a_stream_that_fails_is_told(rt: HostRuntime) -> Result<(), Fail> {
     ];
     for (fails, status, note, written) in rows {
         let taken = run(alloc, "take 5 in.ts out.ts", &packets, &[], 188, fails)?;
-        assert_eq!(rt; taken.status, status);
-        assert_eq!(rt; taken.notes.written(), note.as_bytes());
-        assert_eq!(rt; taken.out.written(), written);
+        same(&rt, taken.status, status);
+        same(&rt, taken.notes.written(), note.as_bytes());
+        same(&rt, taken.out.written(), written);
     }
     let whole = [
         section_of(0x00, 0, &PAT),
@@ -369,8 +375,8 @@ fn a_stream_that_fails_is_told(rt: HostRuntime) -> Result<(), Fail> {
         subtitles,
     ];
     let untold = run(alloc, "take 5 in.ts out.ts", &whole, &[], 188, [0, 0, 1])?;
-    assert_eq!(rt; untold.status, ToolStatus::WriteFault(Which::Notes));
-    assert_eq!(rt; untold.out.written(), subtitles.as_slice());
+    same(&rt, untold.status, ToolStatus::WriteFault(Which::Notes));
+    same(&rt, untold.out.written(), subtitles.as_slice());
     Ok(())
 }
 
@@ -393,9 +399,9 @@ fn other_words_are_wrong(rt: HostRuntime) -> Result<(), Fail> {
     ];
     for text in rows {
         let taken = run(rt.alloc(), text, &packets, &[], 188, [0; 3])?;
-        assert_eq!(rt; taken.status, ToolStatus::Usage);
-        assert_eq!(rt; taken.notes.written(), b"usage\n".as_slice());
-        assert!(rt; taken.out.written().is_empty());
+        same(&rt, taken.status, ToolStatus::Usage);
+        same(&rt, taken.notes.written(), b"usage\n".as_slice());
+        same(&rt, taken.out.written(), b"".as_slice());
     }
     Ok(())
 }

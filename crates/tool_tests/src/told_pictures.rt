@@ -1,8 +1,8 @@
 //! The pictures of all display sets of a stream.
 
-ghost use Rattle.std.specs.Prelude.{◌≤◌, length};
-
 use crate::running::{sink_of, stream_of};
+use crate::same::same;
+use samples::streams::set_packet;
 use samples::words_of;
 use std::alloc::Global;
 use std::test::Fail;
@@ -40,28 +40,6 @@ const OTHER_PAGE: [u8; 14] = [
 
 /// A set that has an end and no page.
 const NO_PAGE: [u8; 6] = [0x0F, 0x80, 0x00, 0x01, 0x00, 0x00];
-
-/// A transport packet of PID 256 with a PES packet of these segments at its end, of 17 bytes more.
-fn packet_of(counter: u8, pts: u32, segments: &[u8]) -> [u8; 188]
-    requires { length segments.now ≤ 160 }
-{
-    let length = segments.len() as u8;
-    let begin = 171 - segments.len();
-    let mut packet = [0xFF; 188];
-    packet[..6].copy_from_slice(&[0x47, 0x41, 0x00, 0x30 + counter % 16, 166 - length, 0x00]);
-    packet[begin..begin + 9].copy_from_slice(&[0, 0, 1, 0xBD, 0, 11 + length, 0x84, 0x80, 5]);
-    packet[begin + 9..begin + 16].copy_from_slice(&[
-        0x21 + 2 * (pts >> 30) as u8,
-        ((pts >> 22) % 256) as u8,
-        ((pts >> 15) % 128 * 2 + 1) as u8,
-        ((pts >> 7) % 256) as u8,
-        (pts % 128 * 2 + 1) as u8,
-        0x20,
-        0x00,
-    ]);
-    packet[begin + 16..187].copy_from_slice(segments);
-    packet
-}
 
 /// How a tool ended over a stream in memory.
 #[derive(Drop)]
@@ -113,68 +91,77 @@ fn pictures_of_two_sets(rt: HostRuntime) -> Result<(), Fail> {
     let rows = [
         // The next set comes first.
         Row {
-            packets: [packet_of(0, 90_000, &FILLED), packet_of(1, 180_000, &EMPTY)],
+            packets: [
+                set_packet(0, 90_000, &FILLED),
+                set_packet(1, 180_000, &EMPTY),
+            ],
             text: "picture 90000 4 2\n4*51F05AC0\n4*51F05AC0\npicture 180000 clear\n",
         },
         // The time-out ends with the next set.
         Row {
             packets: [
-                packet_of(0, 90_000, &FILLED),
-                packet_of(1, 1_170_000, &EMPTY),
+                set_packet(0, 90_000, &FILLED),
+                set_packet(1, 1_170_000, &EMPTY),
             ],
             text: "picture 90000 4 2\n4*51F05AC0\n4*51F05AC0\npicture 1170000 clear\n",
         },
         // And a tick before it.
         Row {
             packets: [
-                packet_of(0, 90_000, &FILLED),
-                packet_of(1, 1_170_001, &EMPTY),
+                set_packet(0, 90_000, &FILLED),
+                set_packet(1, 1_170_001, &EMPTY),
             ],
             text: "picture 90000 4 2\n4*51F05AC0\n4*51F05AC0\npicture 1170000 clear\n\
                 picture 1170001 clear\n",
         },
         // The stream ends: so does the last time-out.
         Row {
-            packets: [packet_of(0, 90_000, &EMPTY), packet_of(1, 180_000, &FILLED)],
+            packets: [
+                set_packet(0, 90_000, &EMPTY),
+                set_packet(1, 180_000, &FILLED),
+            ],
             text: "picture 90000 clear\npicture 180000 4 2\n4*51F05AC0\n4*51F05AC0\n\
                 picture 1260000 clear\n",
         },
         // A set of the same time is not kept.
         Row {
-            packets: [packet_of(0, 90_000, &FILLED), packet_of(1, 90_000, &EMPTY)],
+            packets: [
+                set_packet(0, 90_000, &FILLED),
+                set_packet(1, 90_000, &EMPTY),
+            ],
             text: "picture 90000 4 2\n4*51F05AC0\n4*51F05AC0\npicture 1170000 clear\n",
         },
         // A packet was lost between the two, and the second waits: it is kept, and nothing is
         // shown of it.
         Row {
             packets: [
-                packet_of(0, 90_000, &FILLED),
-                packet_of(2, 180_000, &NORMAL),
+                set_packet(0, 90_000, &FILLED),
+                set_packet(2, 180_000, &NORMAL),
             ],
             text: "picture 90000 4 2\n4*51F05AC0\n4*51F05AC0\npicture 180000 clear\n",
         },
         // The second is broken.
         Row {
             packets: [
-                packet_of(0, 90_000, &FILLED),
-                packet_of(1, 180_000, &NO_PAGE),
+                set_packet(0, 90_000, &FILLED),
+                set_packet(1, 180_000, &NO_PAGE),
             ],
             text: "picture 90000 4 2\n4*51F05AC0\n4*51F05AC0\npicture 180000 clear\n",
         },
         // Sets of another page alone are none.
         Row {
             packets: [
-                packet_of(0, 90_000, &OTHER_PAGE),
-                packet_of(1, 180_000, &OTHER_PAGE),
+                set_packet(0, 90_000, &OTHER_PAGE),
+                set_packet(1, 180_000, &OTHER_PAGE),
             ],
             text: "",
         },
     ];
     for row in &rows {
         let told = run(&rt, alloc, PICTURES, &row.packets, &[], [0, 0])?;
-        assert_eq!(&rt; told.status, ToolStatus::Done);
-        assert_eq!(&rt; told.notes.written(), b"done\n".as_slice());
-        assert_eq!(&rt; told.out.written(), row.text.as_bytes());
+        same(&rt, told.status, ToolStatus::Done);
+        same(&rt, told.notes.written(), b"done\n".as_slice());
+        same(&rt, told.out.written(), row.text.as_bytes());
     }
     Ok(())
 }
@@ -183,27 +170,28 @@ fn pictures_of_two_sets(rt: HostRuntime) -> Result<(), Fail> {
 #[test]
 fn what_ends_the_telling(rt: HostRuntime) -> Result<(), Fail> {
     let alloc = rt.alloc();
-    let first = packet_of(0, 90_000, &FILLED);
+    let first = set_packet(0, 90_000, &FILLED);
     let shown = "picture 90000 4 2\n4*51F05AC0\n4*51F05AC0\n";
     let refused = run(&rt, alloc, PICTURES, &[first, [0; 188]], &[], [0, 0])?;
-    assert_eq!(&rt;
+    same(
+        &rt,
         refused.status,
         ToolStatus::Refused(ReportFault::Stream {
             packet: 1,
-            fault: PacketFault::NoSync
-        })
+            fault: PacketFault::NoSync,
+        }),
     );
-    assert_eq!(&rt; refused.notes.written(), b"refused Stream\n".as_slice());
-    assert_eq!(&rt; refused.out.written(), shown.as_bytes());
+    same(&rt, refused.notes.written(), b"refused Stream\n".as_slice());
+    same(&rt, refused.out.written(), shown.as_bytes());
     let cut = run(&rt, alloc, PICTURES, &[first], &[0x47; 9], [0, 0])?;
-    assert_eq!(&rt; cut.status, ToolStatus::Done);
+    same(&rt, cut.status, ToolStatus::Done);
     let unread = run(&rt, alloc, PICTURES, &[first], &[], [2, 0])?;
-    assert_eq!(&rt; unread.status, ToolStatus::ReadFault(Which::First));
+    same(&rt, unread.status, ToolStatus::ReadFault(Which::First));
     let unwritten = run(&rt, alloc, PICTURES, &[first], &[], [0, 1])?;
-    assert_eq!(&rt; unwritten.status, ToolStatus::WriteFault(Which::Out));
+    same(&rt, unwritten.status, ToolStatus::WriteFault(Which::Out));
     let none = run(&rt, alloc, PICTURES, &[], &[], [0, 0])?;
-    assert_eq!(&rt; none.status, ToolStatus::Done);
-    assert_eq!(&rt; none.out.written().len(), 0);
+    same(&rt, none.status, ToolStatus::Done);
+    same(&rt, none.out.written().len(), 0);
     Ok(())
 }
 
@@ -223,8 +211,8 @@ fn words_that_are_refused(rt: HostRuntime) -> Result<(), Fail> {
         "pictures sd 256 1 2 -stream.ts pictures.txt",
     ] {
         let usage = run(&rt, alloc, text, &[], &[], [1, 1])?;
-        assert_eq!(&rt; usage.status, ToolStatus::Usage);
-        assert_eq!(&rt; usage.notes.written(), b"usage\n".as_slice());
+        same(&rt, usage.status, ToolStatus::Usage);
+        same(&rt, usage.notes.written(), b"usage\n".as_slice());
     }
     Ok(())
 }
