@@ -21,7 +21,8 @@ pub(crate) const FILLED: [u8; 47] = [
     0x0F, 0x80, 0x00, 0x01, 0x00, 0x00,
 ];
 
-/// A packet of PID 256 with a set of at most 160 bytes; for longer ones a packet that has no sync byte.
+/// A packet of PID 256 with a set of at most 160 bytes; for longer ones a packet that has no sync
+/// byte.
 pub(crate) fn packet_of(counter: u8, pts: u32, segments: &[u8]) -> [u8; 188] {
     if segments.len() <= 160 {
         set_packet(counter, pts, segments)
