@@ -5,22 +5,22 @@ use Rattle.sub_base.specs.Counts.{HasRisen}
 use Rattle.sub_base.specs.declared.profile.ProfileName.{ProfileName}
 use Rattle.dvbsub_cmd.specs.Checks.{checks}
 use Rattle.command_words.specs.Ticks.{asked_ticks}
-use Rattle.dvbsub_cmd.specs.Command.{command_of}
+use Rattle.dvbsub_words.specs.Command.{command_of}
 use Rattle.dvbsub_cmd.specs.CompileOutcome.{IsCompileCause, IsCompilable}
 use Rattle.dvbsub_cmd.specs.Completeness.{IsComplete, IsUntroubled}
 use Rattle.packet_walk.specs.ToldEnds.{IsReadableStream, Telling}
 use Rattle.dvbsub_cmd.specs.Dumps.{dumps}
 use Rattle.dvbsub_cmd.specs.ExpectOutcome.{IsExpectCause, IsExpectable}
 use Rattle.dvbsub_cmd.specs.GenOutcome.{IsGenCause}
-use Rattle.dvbsub_cmd.specs.Listing.{lists}
+use Rattle.list_text.specs.Listing.{lists}
 use Rattle.dvbsub_cmd.specs.Outcome.{HasCause, IsCausedBy, TellsStatus}
 use Rattle.script_input.specs.ReadScript.{HasRightScript}
 use Rattle.dvbsub_cmd.specs.InputStatus.{IsInputCause}
 use Rattle.sub_base.specs.Endpoints.{Supplied, Received}
 use Rattle.sub_base.specs.Seen.{Seen}
 use Rattle.dvbsub_cmd.specs.StreamOutcome.{IsStreamCause}
-use Rattle.dvbsub_cmd.specs.declared.command.Command.{Command}
-use Rattle.dvbsub_cmd.specs.declared.command.Command.TheVariants as command
+use Rattle.dvbsub_words.specs.declared.command.Command.{Command}
+use Rattle.dvbsub_words.specs.declared.command.Command.TheVariants as command
 use Rattle.dvbsub_cmd.specs.declared.status.Status.{Status}
 use Rattle.dvbsub_cmd.specs.declared.status.Status.TheVariants as status
 use Rattle.sub_base.specs.declared.status.Which.TheVariants as which

@@ -39,7 +39,8 @@ use Rattle.sub_base.specs.declared.profile.ProfileName.{ProfileName}
 use Rattle.sub_base.specs.declared.profile.ProfileName.TheVariants.{Sd, Hd, Wide, Large}
 use Rattle.script_stream.proofs.ShownLaws.{anchor_suits, compiled_is_shown, compiled_to, is_free}
 use Rattle.script_stream.proofs.UnitLaws.{AllZip-length}
-use Rattle.dvbsub_cmd.specs.GenText.{IsGenText, IsGeneratedFor, entry_line, entry_time, generated_pid, number_line, generated_compiling, generated_reception}
+use Rattle.dvbsub_cmd.specs.GenText.{IsGenText, entry_line, entry_time, generated_pid, number_line, generated_compiling, generated_reception}
+use Rattle.dvbsub_words.specs.Command.{IsGeneratedFor}
 use Rattle.dvbsub_cmd.specs.Private.Generating.{AreOf, AreToldAs, IsCompiledFrom, entry_behind, told_lines}
 use Rattle.dvbsub_cmd.specs.declared.gen_text.Entry.{Entry}
 use Rattle.dvbsub_cmd.specs.declared.gen_text.Told.{Told}

@@ -6,9 +6,9 @@ use Rattle.sub_base.specs.declared.profile.ProfileName.{ProfileName}
 use Rattle.dvbsub_cmd.specs.CompileOutcome.{IsCompileCause, ShowsScript}
 use Rattle.dvbsub_cmd.specs.Headline.{OnDone, IsShownBy}
 use Rattle.dvbsub_cmd.specs.Outcome.{HasCause, IsCausedBy, TellsStatus, untold}
-use Rattle.dvbsub_cmd.specs.Command.{command_of}
-use Rattle.dvbsub_cmd.specs.declared.command.Command.{Command}
-use Rattle.dvbsub_cmd.specs.declared.command.Command.TheVariants as command
+use Rattle.dvbsub_words.specs.Command.{command_of}
+use Rattle.dvbsub_words.specs.declared.command.Command.{Command}
+use Rattle.dvbsub_words.specs.declared.command.Command.TheVariants as command
 use Rattle.dvbsub_cmd.specs.declared.status.Status.{Status}
 use Rattle.dvbsub_cmd.specs.declared.status.Status.TheVariants as status
 

@@ -1,9 +1,7 @@
 pub mod CauseLaws
 pub mod CloseLaws
 pub mod HeadlineLaws
-pub mod ListLaws
 pub mod MemoryLaws
-pub mod ListingLaws
 pub mod TickLaws
 pub mod CheckLaws
 pub mod FinishLaws

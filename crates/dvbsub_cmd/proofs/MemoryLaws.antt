@@ -1,11 +1,11 @@
 -- Where memory is wanting before anything is read or written.
 use Rattle.std.proofs.Common.{◌≡◌, ℕ, List, Option, Some, None, is_some, refl, sym, true, true≢false}
 use Rattle.std.specs.Io.KnownBytes.{Keeps}
-use Rattle.dvbsub_cmd.specs.Command.{command_of}
+use Rattle.dvbsub_words.specs.Command.{command_of}
 use Rattle.dvbsub_cmd.specs.Outcome.{IsCaused, IsCausedBy, IsSecondKept}
 use Rattle.sub_base.specs.Seen.{Seen}
-use Rattle.dvbsub_cmd.specs.declared.command.Command.{Command}
-use Rattle.dvbsub_cmd.specs.declared.command.Command.TheVariants as command
+use Rattle.dvbsub_words.specs.declared.command.Command.{Command}
+use Rattle.dvbsub_words.specs.declared.command.Command.TheVariants as command
 use Rattle.dvbsub_cmd.specs.declared.status.Status.TheVariants as status
 
 kept : (written : Option (List ℕ)) → Keeps written written

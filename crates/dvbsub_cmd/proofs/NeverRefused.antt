@@ -17,7 +17,7 @@ use Rattle.script_stream.specs.declared.faults.CompileFault.{CompileFault}
 use Rattle.script_stream.specs.declared.faults.CompileFault.TheVariants as compile
 use Rattle.script_stream.specs.declared.faults.SendFault.TheVariants as send
 use Rattle.sub_base.specs.Endpoints.{Received}
-use Rattle.dvbsub_cmd.specs.GenText.{IsGeneratedFor}
+use Rattle.dvbsub_words.specs.Command.{IsGeneratedFor}
 use Rattle.dvbsub_cmd.specs.Private.Generating.{IsWanting}
 use Rattle.shown_stream.specs.Compiled.{Compiling}
 

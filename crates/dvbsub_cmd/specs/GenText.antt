@@ -14,14 +14,6 @@ use Rattle.received_level_laws.specs.StreamCalls.{AreCallsOf}
 use Rattle.sub_base.specs.Pace.{pace_of}
 use Rattle.sub_base.specs.Profile.{profile_of}
 use Rattle.sub_base.specs.declared.profile.ProfileName.{ProfileName}
-use Rattle.sub_base.specs.declared.profile.ProfileName.TheVariants.{Sd, Hd, Wide, Large}
-
--- a profile that scripts are generated for
-abbrev pub IsGeneratedFor : ProfileName → Type 0
-IsGeneratedFor Sd = Unit {0}
-IsGeneratedFor Hd = Unit {0}
-IsGeneratedFor Wide = ⊥
-IsGeneratedFor Large = ⊥
 
 -- the PID of the packets, and the page of their segments
 abbrev pub generated_pid : ℕ

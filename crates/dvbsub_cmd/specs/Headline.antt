@@ -2,8 +2,8 @@
 use Rattle.std.specs.Prelude.{Option, Some, None}
 use Rattle.sub_base.specs.Seen.{Seen}
 use Rattle.dvbsub_cmd.specs.CompileOutcome.{ShowsScript}
-use Rattle.dvbsub_cmd.specs.declared.command.Command.{Command}
-use Rattle.dvbsub_cmd.specs.declared.command.Command.TheVariants as command
+use Rattle.dvbsub_words.specs.declared.command.Command.{Command}
+use Rattle.dvbsub_words.specs.declared.command.Command.TheVariants as command
 use Rattle.dvbsub_cmd.specs.declared.status.Status.{Status}
 use Rattle.dvbsub_cmd.specs.declared.status.Status.TheVariants as status
 

@@ -1,12 +1,8 @@
 pub mod Checks
-pub mod Command
 pub mod CompileOutcome
 pub mod Completeness
 pub mod Headline
 pub mod KindNames
-pub mod ListLines
-pub mod ListText
-pub mod Listing
 pub mod Outcome
 pub mod StatusText
 pub mod StreamOutcome

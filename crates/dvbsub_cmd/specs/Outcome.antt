@@ -4,19 +4,19 @@ use Rattle.std.specs.Io.KnownBytes.{Appends}
 use Rattle.sub_base.specs.Counts.{HasRisen}
 use Rattle.sub_base.specs.Endpoints.{AppendsPrefix}
 use Rattle.command_words.specs.Ticks.{asked_ticks}
-use Rattle.dvbsub_cmd.specs.Command.{command_of}
+use Rattle.dvbsub_words.specs.Command.{command_of}
 use Rattle.dvbsub_cmd.specs.CompileOutcome.{IsCompileCause}
 use Rattle.dvbsub_cmd.specs.Checks.{checks}
 use Rattle.dvbsub_cmd.specs.Dumps.{dumps}
 use Rattle.dvbsub_cmd.specs.ExpectOutcome.{IsExpectCause}
 use Rattle.dvbsub_cmd.specs.GenOutcome.{IsGenCause}
-use Rattle.dvbsub_cmd.specs.Listing.{lists}
+use Rattle.list_text.specs.Listing.{lists}
 use Rattle.sub_base.specs.Endpoints.{Received, WroteNothing}
 use Rattle.sub_base.specs.Seen.{Seen}
 use Rattle.dvbsub_cmd.specs.StatusText.{status_line}
 use Rattle.dvbsub_cmd.specs.StreamOutcome.{IsStreamCause}
-use Rattle.dvbsub_cmd.specs.declared.command.Command.{Command}
-use Rattle.dvbsub_cmd.specs.declared.command.Command.TheVariants as command
+use Rattle.dvbsub_words.specs.declared.command.Command.{Command}
+use Rattle.dvbsub_words.specs.declared.command.Command.TheVariants as command
 use Rattle.dvbsub_cmd.specs.declared.status.Status.{Status}
 use Rattle.dvbsub_cmd.specs.declared.status.Status.TheVariants as status
 use Rattle.sub_base.specs.declared.status.Which.TheVariants as which

@@ -37,13 +37,13 @@ pub fn check<A: Source, K: Sink>(
         result }
 {
     let profile = Profile::of(profile);
-    let Ok(mut check) = Check::make(alloc, &profile, origin, pid, Pages::only(page)) else {
-        return Status::Memory;
-    };
     let Ok(mut buffer) = TextBuffer::make(alloc) else {
         return Status::Memory;
     };
     let Ok(mut packets) = PacketSource::make(alloc) else {
+        return Status::Memory;
+    };
+    let Ok(mut check) = Check::make(alloc, &profile, origin, pid, Pages::only(page)) else {
         return Status::Memory;
     };
     let end = walk_packets(stream, out, &mut buffer, &mut check, &mut packets);

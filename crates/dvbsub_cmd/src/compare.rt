@@ -63,9 +63,9 @@ fn shown_texts<R: Threads + Sync, G: BandGate + Sync>(
         ticks.now true packets.now texts.written) }
 {
     let profile = Profile::of(profile);
-    let mut dump = Dump::make(alloc, 1, &profile, PID, Pages::only(PAGE), ticks)?;
     let mut buffer = TextBuffer::make(alloc)?;
     let mut texts = MemSink::make(alloc, usize::MAX, Vec::new(alloc));
+    let mut dump = Dump::make(alloc, 1, &profile, PID, Pages::only(PAGE), ticks)?;
     // A receiver takes all of them.
     if let Err(_) = dump.take_packets(rt, gate, &mut texts, &mut buffer, 0, packets) {
         unreachable!()
@@ -102,10 +102,10 @@ pub fn peak_of(alloc: Global, profile: ProfileName, packets: &[[u8; 188]]) -> Re
         (IsPeak (generated_reception profile) packets.now) }
 {
     let profile = Profile::of(profile);
-    let mut check = Check::make(alloc, &profile, 0, PID, Pages::only(PAGE))?;
     let mut buffer = TextBuffer::make(alloc)?;
     // The lines of the sets, which nobody asks for.
     let mut lines = MemSink::make(alloc, usize::MAX, Vec::new(alloc));
+    let mut check = Check::make(alloc, &profile, 0, PID, Pages::only(PAGE))?;
     // A receiver takes all of them.
     if let Err(_) = take_packets(&mut lines, &mut buffer, &mut check, 0, packets) {
         unreachable!()

@@ -4,11 +4,11 @@ ghost use Rattle.dvbsub_cmd.specs.Dumps.{dumps};
 ghost use Rattle.dvbsub_cmd.specs.StreamOutcome.{IsStreamCause};
 
 use crate::closing::status_of_end;
-use crate::command::WORDS_OF_DUMP;
 use crate::status::Status;
 use command_words::ticks_of;
 use decoder_model::Pages;
 use dump_text::dump_stream;
+use dvbsub_words::WORDS_OF_DUMP;
 use std::alloc::Global;
 use std::thread::Threads;
 use sub_base::{BandGate, Profile, ProfileName, Sink, Source, Words};

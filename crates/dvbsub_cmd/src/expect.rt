@@ -4,12 +4,12 @@ ghost use Rattle.dvbsub_cmd.specs.ExpectOutcome.{IsExpectCause, authored_text, e
 ghost use Rattle.command_text.specs.Putting.{PutsOut};
 ghost use Rattle.sub_base.specs.Seen.{seen};
 
-use crate::command::WORDS_OF_EXPECT;
 use crate::read_script::read_script;
 use crate::status::Status;
 use command_text::{TextBuffer, flush, put_picture};
 use command_words::ticks_of;
 use cue_list::{Script, picture_at};
+use dvbsub_words::WORDS_OF_EXPECT;
 use std::alloc::{AllocError, Global};
 use sub_base::{CLEAR, Colour, Sink, Source, Which, Words};
 

@@ -4,7 +4,8 @@ ghost use Rattle.packet_source.specs.InHand.{whole_packets};
 ghost use Rattle.page_epoch.specs.declared.planned_set.PlannedSet.{PlannedSet};
 ghost use Rattle.shown_stream.specs.Compiled.{IsCompiledFor};
 ghost use Rattle.dvbsub_cmd.specs.GenOutcome.{IsGenCause};
-ghost use Rattle.dvbsub_cmd.specs.GenText.{IsGenText, IsGeneratedFor, entry_line as entry_line_of};
+ghost use Rattle.dvbsub_cmd.specs.GenText.{IsGenText, entry_line as entry_line_of};
+ghost use Rattle.dvbsub_words.specs.Command.{IsGeneratedFor};
 ghost use Rattle.dvbsub_cmd.specs.Private.Generating.{AreOf, AreToldAs, entry_behind, told_lines};
 
 use crate::compare::{peak_of, shows_authored};

@@ -1,5 +1,5 @@
 ghost use Rattle.std.specs.Prelude.{◌≤◌, IfOk};
-ghost use Rattle.dvbsub_cmd.specs.GenText.{IsGeneratedFor};
+ghost use Rattle.dvbsub_words.specs.Command.{IsGeneratedFor};
 ghost use Rattle.dvbsub_cmd.specs.Private.Generating.{IsCompiledFrom, IsWanting};
 
 use cue_list::Script;

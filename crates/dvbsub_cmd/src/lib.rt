@@ -1,11 +1,8 @@
-//! The commands: their words, the sources they read, the sink they write, and the line that tells
-//! how they ended.
+//! The commands: the sources they read, the sink they write, and the line that tells how they ended.
 #![tactic(auto)]
 
-// The words of a command, and how it ended.
-mod command;
+// How a command ended.
 mod kind_names;
-mod read_command;
 mod status;
 
 // `compile`: a script, and its packets.
@@ -29,17 +26,14 @@ mod closing;
 mod check;
 mod dump;
 
-// `list`: the lines of packets, units and segments.
+// `list`: the losses, units and segments of a stream.
 mod list;
-mod list_lines;
-mod list_packets;
-mod list_units;
 
 // All commands.
 mod top_call;
 
-pub use command::{Command, inputs};
 pub use command_words::InputPlaces;
+pub use dvbsub_words::{Command, inputs};
 pub use status::Status;
 pub use sub_base::Which;
 pub use top_call::{tell, top};

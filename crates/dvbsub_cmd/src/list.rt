@@ -1,10 +1,10 @@
-ghost use Rattle.dvbsub_cmd.specs.Listing.{lists};
+ghost use Rattle.list_text.specs.Listing.{lists};
 ghost use Rattle.dvbsub_cmd.specs.StreamOutcome.{IsStreamCause};
 
 use crate::closing::close;
-use crate::list_packets::Lister;
 use crate::status::Status;
 use command_text::TextBuffer;
+use list_text::Lister;
 use packet_source::PacketSource;
 use packet_walk::walk_packets;
 use std::alloc::Global;
@@ -20,13 +20,13 @@ pub fn list<A: Source, K: Sink>(alloc: Global, pid: u16, stream: &mut A, out: &m
         (K.received out.new)
         result }
 {
-    let Ok(mut lister) = Lister::make(alloc, pid) else {
-        return Status::Memory;
-    };
     let Ok(mut buffer) = TextBuffer::make(alloc) else {
         return Status::Memory;
     };
     let Ok(mut packets) = PacketSource::make(alloc) else {
+        return Status::Memory;
+    };
+    let Ok(mut lister) = Lister::make(alloc, pid) else {
         return Status::Memory;
     };
     let end = walk_packets(stream, out, &mut buffer, &mut lister, &mut packets);

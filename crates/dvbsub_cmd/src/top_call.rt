@@ -1,19 +1,18 @@
 ghost use Rattle.std.specs.Prelude.{◌≡◌, IfSome};
-ghost use Rattle.dvbsub_cmd.specs.Command.{command_of as command_of_words, IsInRange};
+ghost use Rattle.dvbsub_words.specs.Command.{command_of as command_of_words, IsInRange};
 ghost use Rattle.dvbsub_cmd.specs.Completeness.{IsComplete};
 ghost use Rattle.dvbsub_cmd.specs.Headline.{IsShownBy};
 ghost use Rattle.sub_base.specs.Seen.{seen};
 ghost use Rattle.dvbsub_cmd.specs.Outcome.{HasCause, IsCaused, IsSecondKept, TellsStatus};
 
 use crate::check::check;
-use crate::command::Command;
 use crate::compile::compile;
 use crate::dump::dump;
 use crate::expect::expect;
 use crate::gen_text::write_gen_text;
 use crate::list::list;
-use crate::read_command::read_command;
 use crate::status::{Status, status_line};
+use dvbsub_words::{Command, read_command};
 use std::alloc::Global;
 use std::thread::Threads;
 use sub_base::{BandGate, NoMemory, Sink, Source, Which, Words, write_whole};

@@ -104,13 +104,13 @@ fn tell_faults<A: Source, K: Sink>(
 {
     let profile = Profile::of(report.profile);
     let pages = Pages::only(report.page);
-    let Ok(mut faults) = Faults::make(alloc, &profile, report.pid, pages) else {
-        return ToldEnd::Memory;
-    };
     let Ok(mut buffer) = TextBuffer::make(alloc) else {
         return ToldEnd::Memory;
     };
     let Ok(mut packets) = PacketSource::make(alloc) else {
+        return ToldEnd::Memory;
+    };
+    let Ok(mut faults) = Faults::make(alloc, &profile, report.pid, pages) else {
         return ToldEnd::Memory;
     };
     let end = walk_packets(stream, out, &mut buffer, &mut faults, &mut packets);

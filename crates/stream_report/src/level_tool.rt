@@ -134,13 +134,13 @@ fn tell_by_rate<A: Source, K: Sink>(
 {
     let profile = Profile::of(report.profile);
     let pages = Pages::only(report.page);
-    let Ok(mut levels) = RateLevels::make(alloc, &profile, report.pid, pages, rate) else {
-        return ToldEnd::Memory;
-    };
     let Ok(mut buffer) = TextBuffer::make(alloc) else {
         return ToldEnd::Memory;
     };
     let Ok(mut packets) = PacketSource::make(alloc) else {
+        return ToldEnd::Memory;
+    };
+    let Ok(mut levels) = RateLevels::make(alloc, &profile, report.pid, pages, rate) else {
         return ToldEnd::Memory;
     };
     let end = walk_packets(stream, out, &mut buffer, &mut levels, &mut packets);
@@ -177,13 +177,13 @@ fn tell_by_clock<A: Source, K: Sink>(
 {
     let profile = Profile::of(report.profile);
     let pages = Pages::only(report.page);
-    let Ok(mut levels) = ProgrammeLevels::make(alloc, &profile, report.pid, pages) else {
-        return ToldEnd::Memory;
-    };
     let Ok(mut buffer) = TextBuffer::make(alloc) else {
         return ToldEnd::Memory;
     };
     let Ok(mut packets) = PacketSource::make(alloc) else {
+        return ToldEnd::Memory;
+    };
+    let Ok(mut levels) = ProgrammeLevels::make(alloc, &profile, report.pid, pages) else {
         return ToldEnd::Memory;
     };
     let end = walk_packets(stream, out, &mut buffer, &mut levels, &mut packets);

@@ -116,13 +116,13 @@ fn tell_pictures<R: Threads + Sync, A: Source, K: Sink, G: BandGate + Sync>(
 {
     let profile = Profile::of(report.profile);
     let pages = Pages::only(report.page);
-    let Ok(mut pictures) = Pictures::make(alloc, report.bands, &profile, report.pid, pages) else {
-        return ToldEnd::Memory;
-    };
     let Ok(mut buffer) = TextBuffer::make(alloc) else {
         return ToldEnd::Memory;
     };
     let Ok(mut packets) = PacketSource::make(alloc) else {
+        return ToldEnd::Memory;
+    };
+    let Ok(mut pictures) = Pictures::make(alloc, report.bands, &profile, report.pid, pages) else {
         return ToldEnd::Memory;
     };
     let end = pictures.walk(rt, gate, stream, out, &mut buffer, &mut packets);

@@ -90,13 +90,13 @@ fn tell_pids<A: Source, K: Sink>(alloc: Global, stream: &mut A, out: &mut K) -> 
         (K.received out.new)
         result }
 {
-    let Ok(mut teller) = PidTeller::make(alloc) else {
-        return ToldEnd::Memory;
-    };
     let Ok(mut buffer) = TextBuffer::make(alloc) else {
         return ToldEnd::Memory;
     };
     let Ok(mut packets) = PacketSource::make(alloc) else {
+        return ToldEnd::Memory;
+    };
+    let Ok(mut teller) = PidTeller::make(alloc) else {
         return ToldEnd::Memory;
     };
     let end = walk_packets(stream, out, &mut buffer, &mut teller, &mut packets);

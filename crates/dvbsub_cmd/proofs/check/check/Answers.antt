@@ -12,11 +12,11 @@ use Rattle.dvbsub_cmd.proofs.check.check.Goals as goal
 
 pub returns : goal.returns
 returns g c =
-    let made = c.in-Ok.check in
+    let made = c.in-Ok-make-2.check in
     let walked = c.walk_packets-end.new.teller in
     let pid = (reception made.receiving).pid in
     let same =
-    c.walk_packets-end.ensures.same ∙ c.in-Ok.ensures.made
+    c.walk_packets-end.ensures.same ∙ c.in-Ok-make-2.ensures.made
     ∙ (λ i. record {
       profile = c.of-profile.ensures i;
       pid = c.args.pid;
@@ -35,6 +35,6 @@ returns g c =
     (λ (pid : ℕ). IsStreamCause (checks c.args.profile c.args.origin c.args.pid c.args.page) pid
     (g.A.Source.supplied c.args.stream.now) (g.A.Source.supplied c.walk_packets-end.new.stream)
     (g.K.Sink.received c.args.out.now) (g.K.Sink.received c.close.new.out) c.close.result)
-    (ap (λ (one : Reception). one.pid) c.in-Ok.ensures.made)
+    (ap (λ (one : Reception). one.pid) c.in-Ok-make-2.ensures.made)
     (closed (checks c.args.profile c.args.origin c.args.pid c.args.page) pid _ _ _ _ _ c.finish.new.buffer
     c.walk_packets-end.result c.close.result told c.close.ensures)

@@ -12,13 +12,13 @@ use Rattle.stream_report.proofs.fault_tool.tell_faults.Goals as goal
 
 pub returns : goal.returns
 returns g c =
-    let made = c.in-Ok.faults in
+    let made = c.in-Ok-make-2.faults in
     let walked = c.walk_packets-end.new.teller in
     let report = c.args.report in
     let end = c.walk_packets-end.result in
     let pid = (reception made.receiving).pid in
     let same =
-    c.walk_packets-end.ensures.same ∙ c.in-Ok.ensures.made
+    c.walk_packets-end.ensures.same ∙ c.in-Ok-make-2.ensures.made
     ∙ (λ i. record {
       profile = c.of-profile.ensures i;
       pid = report.pid;
@@ -34,6 +34,6 @@ returns g c =
     subst (λ (pid : ℕ). IsToldEnd (tells_faults report) pid (g.A.Source.supplied c.args.stream.now)
     (g.A.Source.supplied c.walk_packets-end.new.stream) (g.K.Sink.received c.args.out.now)
     (g.K.Sink.received c.close_walk.new.out) c.close_walk.result)
-    (ap (λ (one : Reception). one.pid) c.in-Ok.ensures.made)
+    (ap (λ (one : Reception). one.pid) c.in-Ok-make-2.ensures.made)
     (closed (tells_faults report) pid _ _ _ _ _ c.finish.new.buffer end c.close_walk.result told
     c.close_walk.ensures)

@@ -13,8 +13,8 @@ use Rattle.stream_report.proofs.ClockEndLaws.{stopped_as_asked, told_as_asked}
 use Rattle.stream_report.proofs.EndLaws.{later_end}
 use Rattle.stream_report.proofs.level_tool.tell_by_clock.Goals as goal
 
-pub make-requires : goal.make-requires
-make-requires g c = record {
+pub make-requires-3 : goal.make-requires-3
+make-requires-3 g c = record {
   profile = subst IsProfile (sym c.of-profile.ensures) (every_profile c.args.report.profile);
 }
 
@@ -22,8 +22,8 @@ pub returns-then-finish_by_clock : goal.returns-then-finish_by_clock
 returns-then-finish_by_clock g c =
     let report = c.args.report in
     let asked : Reception = for_page report.profile report.pid report.page 0 in
-    let made : c.in-Ok.levels.levels.meter.asked ≡ asked =
-    c.in-Ok.ensures.asked
+    let made : c.in-Ok-make-2.levels.levels.meter.asked ≡ asked =
+    c.in-Ok-make-2.ensures.asked
     ∙ (λ i. record {
       profile = c.of-profile.ensures i;
       pid = report.pid;
@@ -46,8 +46,8 @@ pub returns : goal.returns
 returns g c =
     let report = c.args.report in
     let asked : Reception = for_page report.profile report.pid report.page 0 in
-    let made : c.in-Ok.levels.levels.meter.asked ≡ asked =
-    c.in-Ok.ensures.asked
+    let made : c.in-Ok-make-2.levels.levels.meter.asked ≡ asked =
+    c.in-Ok-make-2.ensures.asked
     ∙ (λ i. record {
       profile = c.of-profile.ensures i;
       pid = report.pid;

@@ -14,20 +14,20 @@ use Rattle.stream_report.specs.LevelsOutcome.{tells_of}
 use Rattle.stream_report.specs.declared.levels_words.Arrival.TheVariants.{Rate}
 use Rattle.stream_report.proofs.level_tool.tell_by_rate.Goals as goal
 
-pub make-requires-clause-profile : goal.make-requires-clause-profile
-make-requires-clause-profile g c =
+pub make-requires-3-clause-profile : goal.make-requires-3-clause-profile
+make-requires-3-clause-profile g c =
     subst IsProfile (sym c.of-profile.ensures) (every_profile c.args.report.profile)
 
 pub returns : goal.returns
 returns g c =
-    let made = c.in-Ok.levels in
+    let made = c.in-Ok-make-2.levels in
     let walked = c.walk_packets-end.new.teller in
     let report = c.args.report in
     let asked : Reception = for_page report.profile report.pid report.page 0 in
     let end = c.walk_packets-end.result in
     let pid = (reception made.sets.receiving).pid in
     let same : reception walked.sets.receiving ≡ for_page report.profile report.pid report.page 0 =
-    ap (λ (kept : Reception × ℕ). kept.0) c.walk_packets-end.ensures.same ∙ c.in-Ok.ensures.made
+    ap (λ (kept : Reception × ℕ). kept.0) c.walk_packets-end.ensures.same ∙ c.in-Ok-make-2.ensures.made
     ∙ (λ i. record {
       profile = c.of-profile.ensures i;
       pid = report.pid;
@@ -35,7 +35,7 @@ returns g c =
       anchor = 0;
     }) in
     let at_rate : walked.rate ≡ c.args.rate =
-    ap (λ (kept : Reception × ℕ). kept.1) c.walk_packets-end.ensures.same ∙ c.in-Ok.ensures.rate in
+    ap (λ (kept : Reception × ℕ). kept.1) c.walk_packets-end.ensures.same ∙ c.in-Ok-make-2.ensures.rate in
     let ended = c.finish.ensures pid _ _ _ c.walk_packets-end.ensures.end in
     let told =
     end_told (levels_tell walked (is_whole_end end)) (tells_of (Rate c.args.rate) asked (is_whole_end end)) pid _ _ _ _
@@ -45,6 +45,6 @@ returns g c =
     subst (λ (pid : ℕ). IsToldEnd (tells_of (Rate c.args.rate) asked) pid (g.A.Source.supplied c.args.stream.now)
     (g.A.Source.supplied c.walk_packets-end.new.stream) (g.K.Sink.received c.args.out.now)
     (g.K.Sink.received c.close_walk.new.out) c.close_walk.result)
-    (ap (λ (one : Reception). one.pid) c.in-Ok.ensures.made)
+    (ap (λ (one : Reception). one.pid) c.in-Ok-make-2.ensures.made)
     (closed (tells_of (Rate c.args.rate) asked) pid _ _ _ _ _ c.finish.new.buffer end c.close_walk.result told
     c.close_walk.ensures)

@@ -12,13 +12,13 @@ use Rattle.stream_report.proofs.picture_tool.tell_pictures.Goals as goal
 
 pub returns : goal.returns
 returns g c =
-    let made = c.in-Ok.pictures in
+    let made = c.in-Ok-make-2.pictures in
     let walked = c.walk-end.new.self in
     let report = c.args.report in
     let end = c.walk-end.result in
     let pid = (reception made.receiving).pid in
     let same =
-    c.walk-end.ensures.same ∙ c.in-Ok.ensures.made
+    c.walk-end.ensures.same ∙ c.in-Ok-make-2.ensures.made
     ∙ (λ i. record {
       profile = c.of-profile.ensures i;
       pid = report.pid;
@@ -34,6 +34,6 @@ returns g c =
     subst (λ (pid : ℕ). IsToldEnd (tells_pictures report) pid (g.A.Source.supplied c.args.stream.now)
     (g.A.Source.supplied c.walk-end.new.stream) (g.K.Sink.received c.args.out.now)
     (g.K.Sink.received c.close_walk.new.out) c.close_walk.result)
-    (ap (λ (one : Reception). one.pid) c.in-Ok.ensures.made)
+    (ap (λ (one : Reception). one.pid) c.in-Ok-make-2.ensures.made)
     (closed (tells_pictures report) pid _ _ _ _ _ c.finish.new.buffer end c.close_walk.result told
     c.close_walk.ensures)

@@ -1,9 +1,9 @@
 ghost use Rattle.std.specs.Prelude.{◌≡◌, ◌+◌, ◌<◌, ◌≤◌, ◌^◌, List, ℕ, length};
 ghost use Rattle.segments.specs.Framing.{IsFrameOf};
-ghost use Rattle.dvbsub_cmd.specs.ListText.{AreSegmentLines, AreUnitLines, IsSegmentLine};
+ghost use Rattle.list_text.specs.ListText.{AreSegmentLines, AreUnitLines, IsSegmentLine};
 ghost use Rattle.command_text.specs.Putting.{PutsOut};
 
-use crate::list_lines::{fault_line, pes_line, unit_line, write_segment_line};
+use crate::lines::{fault_line, pes_line, unit_line, write_segment_line};
 use command_text::{Line, TextBuffer, put};
 use pes_packets::read_pes;
 use segments::{Frame, frames};

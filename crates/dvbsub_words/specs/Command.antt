@@ -11,10 +11,9 @@ use Rattle.sub_base.specs.Number.{number_in}
 use Rattle.sub_base.specs.declared.profile.ProfileName.{ProfileName}
 use Rattle.sub_base.specs.declared.profile.ProfileName.TheVariants.{Sd, Hd, Wide, Large}
 use Rattle.shown_stream.specs.Compiled.{IsCompiledFor}
-use Rattle.dvbsub_cmd.specs.GenText.{IsGeneratedFor}
-use Rattle.dvbsub_cmd.specs.declared.command.TheConstants.{MOST_GENERATED}
-use Rattle.dvbsub_cmd.specs.declared.command.Command.{Command}
-use Rattle.dvbsub_cmd.specs.declared.command.Command.TheVariants as command
+use Rattle.dvbsub_words.specs.declared.command.TheConstants.{MOST_GENERATED}
+use Rattle.dvbsub_words.specs.declared.command.Command.{Command}
+use Rattle.dvbsub_words.specs.declared.command.Command.TheVariants as command
 use Rattle.command_words.specs.declared.place.InputPlaces.{InputPlaces}
 use Rattle.stream_syntax.specs.declared.wire.TheConstants.{TIME_ROUND, NULL_PID}
 use Rattle.cue_list.specs.declared.limits.TheConstants.{LATEST_ORIGIN}
@@ -95,6 +94,13 @@ places_of (Some (command.Dump profile pid page bands)) = record { first = Some 5
 places_of (Some (command.Check profile origin pid page)) = record { first = Some 5; second = None; out = Some 6 }
 places_of (Some (command.Expect has_font)) = record { first = Some 1; second = font_place has_font 2; out = Some 3 }
 places_of (Some (command.Gen number profile)) = record { first = None; second = None; out = Some 3 }
+
+-- a profile that scripts are generated for
+abbrev pub IsGeneratedFor : ProfileName → Type 0
+IsGeneratedFor Sd = Unit {0}
+IsGeneratedFor Hd = Unit {0}
+IsGeneratedFor Wide = ⊥
+IsGeneratedFor Large = ⊥
 
 -- the numbers of a command are in their ranges: packets are sent with a PID of 13 bits that null packets do not have,
 -- for a profile that scripts are compiled for, and so are levels measured; a stream begins at a tick of 33 bits;

@@ -1,6 +1,6 @@
 ghost use Rattle.std.specs.Prelude.{◌≡◌, ◌+◌, ◌<◌, ◌≤◌, ◌^◌, ◌++◌, length, codes};
 ghost use Rattle.command_text.specs.Lines.{line_end, then_number};
-ghost use Rattle.dvbsub_cmd.specs.ListLines.{loss_line as loss_line_of, unit_line as unit_line_of, pes_line as pes_line_of, segment_line as segment_line_of, fault_line as fault_line_of};
+ghost use Rattle.list_text.specs.ListLines.{loss_line as loss_line_of, unit_line as unit_line_of, pes_line as pes_line_of, segment_line as segment_line_of, fault_line as fault_line_of};
 
 use command_text::Line;
 use fault_names::{pes_fault_name, segment_kind_name};

@@ -10,8 +10,8 @@ use Rattle.stream_syntax.proofs.FrameLaws.{frames_are}
 use Rattle.segments.specs.declared.frame.Frame.{Frame as FrameOfBytes}
 use Rattle.segments.specs.Framing.{IsFrameOf, IsFirstFrame}
 use Rattle.segments.proofs.Framing.{body_size}
-use Rattle.dvbsub_cmd.specs.ListLines.{segment_line, fault_line, unit_line}
-use Rattle.dvbsub_cmd.specs.ListText.{IsSegmentLine, right, AreFrameLines, AreSegmentLines, none_left, cut_line, line_first, AreUnitLines, of_subtitles}
+use Rattle.list_text.specs.ListLines.{segment_line, fault_line, unit_line}
+use Rattle.list_text.specs.ListText.{IsSegmentLine, right, AreFrameLines, AreSegmentLines, none_left, cut_line, line_first, AreUnitLines, of_subtitles}
 use Rattle.command_text.specs.Putting.{Buffered, PutsOut}
 use Rattle.sub_base.specs.Endpoints.{Received}
 use Rattle.command_text.proofs.PutLaws.{PutsOut-nothing, PutsOut-both}

@@ -10,7 +10,7 @@ use Rattle.stream_syntax.specs.declared.pes.PesFault.{PesFault}
 use Rattle.stream_syntax.specs.declared.segment_fault.SegmentFault.{SegmentFault}
 use Rattle.stream_syntax.specs.DataField.{Frame, segment, broken, AreFrames}
 use Rattle.sub_base.specs.declared.profile.TheConstants.{LARGEST_BUFFER}
-use Rattle.dvbsub_cmd.specs.ListLines.{loss_line, unit_line, pes_line, segment_line, fault_line}
+use Rattle.list_text.specs.ListLines.{loss_line, unit_line, pes_line, segment_line, fault_line}
 
 -- units that need more bytes are dropped: no receiver has a larger coded data buffer
 abbrev pub unit_limit : ℕ

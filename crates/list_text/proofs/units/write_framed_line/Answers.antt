@@ -1,6 +1,6 @@
-use Rattle.dvbsub_cmd.specs.ListText.{refused}
-use Rattle.dvbsub_cmd.proofs.ListLaws.{right_line}
-use Rattle.dvbsub_cmd.proofs.list_units.write_framed_line.Goals as goal
+use Rattle.list_text.specs.ListText.{refused}
+use Rattle.list_text.proofs.ListLaws.{right_line}
+use Rattle.list_text.proofs.units.write_framed_line.Goals as goal
 
 pub returns-in-Ok-clause-line : goal.returns-in-Ok-clause-line
 returns-in-Ok-clause-line c bytes framed exact =

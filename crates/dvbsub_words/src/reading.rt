@@ -1,5 +1,5 @@
 ghost use Rattle.std.specs.Prelude.{◌≡◌, IfErr, IfOk, IfSome, is_some, true};
-ghost use Rattle.dvbsub_cmd.specs.Command.{command_of as command_of_words, IsInRange};
+ghost use Rattle.dvbsub_words.specs.Command.{command_of as command_of_words, IsInRange};
 
 use crate::command::{Command, named};
 use command_line::positional_words;

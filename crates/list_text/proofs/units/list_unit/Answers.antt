@@ -1,7 +1,7 @@
 use Rattle.std.proofs.Common.{◌∙◌}
-use Rattle.dvbsub_cmd.specs.ListText.{of_others}
-use Rattle.dvbsub_cmd.proofs.ListLaws.{unit_lines}
-use Rattle.dvbsub_cmd.proofs.list_units.list_unit.Goals as goal
+use Rattle.list_text.specs.ListText.{of_others}
+use Rattle.list_text.proofs.ListLaws.{unit_lines}
+use Rattle.list_text.proofs.units.list_unit.Goals as goal
 
 pub returns-in-Ok : goal.returns-in-Ok
 returns-in-Ok g c =

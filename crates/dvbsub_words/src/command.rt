@@ -1,6 +1,6 @@
 ghost use Rattle.std.specs.Prelude.{◌≡◌, IfSome};
 ghost use Rattle.std.specs.Option.{option_or};
-ghost use Rattle.dvbsub_cmd.specs.Command.{command_of as command_of_words, check_of as check_of_words, compile_of as compile_of_words, dump_of as dump_of_words, expect_of as expect_of_words, font_place as font_place_of, gen_of as gen_of_words, generating_profile as small_profile_of_word, list_of as list_of_words, named_command, places_of, IsInRange};
+ghost use Rattle.dvbsub_words.specs.Command.{command_of as command_of_words, check_of as check_of_words, compile_of as compile_of_words, dump_of as dump_of_words, expect_of as expect_of_words, font_place as font_place_of, gen_of as gen_of_words, generating_profile as small_profile_of_word, list_of as list_of_words, named_command, places_of, IsInRange};
 
 use command_words::{
     InputPlaces, MOST_BANDS, are_plain, has_ticks, has_word, names_font, no_files, page_in, pid_in,

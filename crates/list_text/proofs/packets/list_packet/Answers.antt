@@ -1,5 +1,5 @@
-use Rattle.dvbsub_cmd.proofs.ListingLaws.{other_listed, packet_listed}
-use Rattle.dvbsub_cmd.proofs.list_packets.list_packet.Goals as goal
+use Rattle.list_text.proofs.ListingLaws.{other_listed, packet_listed}
+use Rattle.list_text.proofs.packets.list_packet.Goals as goal
 
 pub returns-clause-lists : goal.returns-clause-lists
 returns-clause-lists g c =

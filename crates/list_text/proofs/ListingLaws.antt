@@ -10,9 +10,9 @@ use Rattle.stream_syntax.specs.declared.transport.Event.{Event}
 use Rattle.stream_syntax.specs.declared.transport.Event.TheVariants as event
 use Rattle.packet_walk.specs.Told.{TellsOne}
 use Rattle.ts_packets.specs.Demuxing.{Demuxing, HasDemuxed, DemuxesOn}
-use Rattle.dvbsub_cmd.specs.Listing.{IsListed}
-use Rattle.dvbsub_cmd.specs.ListLines.{loss_line}
-use Rattle.dvbsub_cmd.specs.ListText.{ArePacketLines, AreEndLines, IsListText, unit_limit}
+use Rattle.list_text.specs.Listing.{IsListed}
+use Rattle.list_text.specs.ListLines.{loss_line}
+use Rattle.list_text.specs.ListText.{ArePacketLines, AreEndLines, IsListText, unit_limit}
 use Rattle.command_text.specs.Putting.{Buffered, PutsOut}
 use Rattle.sub_base.specs.Endpoints.{Received}
 use Rattle.command_text.proofs.PutLaws.{PutsOut-both, PutsOut-nothing}

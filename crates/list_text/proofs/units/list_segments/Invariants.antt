@@ -2,8 +2,8 @@ use Rattle.std.proofs.Common.{◌≤◌, ◌+◌, length}
 use Rattle.stream_syntax.specs.DataField.{frames_of}
 use Rattle.stream_syntax.proofs.FrameLaws.{bytes_held}
 use Rattle.segments.specs.Framing.{frames_left}
-use Rattle.dvbsub_cmd.proofs.ListLaws.{AreLinesSoFar}
-use Rattle.dvbsub_cmd.proofs.list_units.list_segments.Given as goal
+use Rattle.list_text.proofs.ListLaws.{AreLinesSoFar}
+use Rattle.list_text.proofs.units.list_segments.Given as goal
 
 abbrev pub invariant-loop-head : goal.invariant-loop-head
 invariant-loop-head g l =

@@ -1,7 +1,7 @@
 -- What `list` has taken of packets, and what it has told of them.
 use Rattle.std.specs.Prelude.{◌≡◌, ℕ, Bool, List}
 use Rattle.ts_packets.specs.Demuxing.{Demuxing, HasDemuxed}
-use Rattle.dvbsub_cmd.specs.ListText.{IsListText, unit_limit}
+use Rattle.list_text.specs.ListText.{IsListText, unit_limit}
 
 -- the demultiplexer was fed these packets, of which this text is told
 pub record IsListed (demux : Demuxing) (packets : List (List ℕ)) (text : List ℕ) : Type 0 where

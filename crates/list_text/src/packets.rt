@@ -3,12 +3,12 @@ ghost use Rattle.std.specs.Option.{option_copied};
 ghost use Rattle.stream_syntax.specs.TransportPackets.{packet_fault};
 ghost use Rattle.packet_walk.specs.Told.{StaysTold, TellsOne};
 ghost use Rattle.command_text.specs.Putting.{PutsOut};
-ghost use Rattle.dvbsub_cmd.specs.ListLines.{loss_line as loss_line_of};
-ghost use Rattle.dvbsub_cmd.specs.Listing.{IsListed};
-ghost use Rattle.dvbsub_cmd.specs.ListText.{AreEndLines};
+ghost use Rattle.list_text.specs.ListLines.{loss_line as loss_line_of};
+ghost use Rattle.list_text.specs.Listing.{IsListed};
+ghost use Rattle.list_text.specs.ListText.{AreEndLines};
 
-use crate::list_lines::loss_line;
-use crate::list_units::list_unit;
+use crate::lines::loss_line;
+use crate::units::list_unit;
 use command_text::{TextBuffer, put};
 use packet_walk::PacketTeller;
 use std::alloc::Global;

@@ -2,9 +2,9 @@ use Rattle.std.proofs.Common.{◌≡◌, ◌∙◌, [], ◌∷◌, Some, subst, 
 use Rattle.stream_syntax.specs.DataField.{broken, frames_of}
 use Rattle.stream_syntax.proofs.FrameLaws.{bytes_held, frames_held}
 use Rattle.segments.specs.Framing.{IsFirstFrame, TellsFirst, frames_left}
-use Rattle.dvbsub_cmd.specs.ListText.{IsSegmentLine}
-use Rattle.dvbsub_cmd.proofs.ListLaws.{no_lines, line_more, lines_ended, lines_broken}
-use Rattle.dvbsub_cmd.proofs.list_units.list_segments.Goals as goal
+use Rattle.list_text.specs.ListText.{IsSegmentLine}
+use Rattle.list_text.proofs.ListLaws.{no_lines, line_more, lines_ended, lines_broken}
+use Rattle.list_text.proofs.units.list_segments.Goals as goal
 
 pub loop-head-init : goal.loop-head-init
 loop-head-init g c =
