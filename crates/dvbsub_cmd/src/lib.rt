@@ -1,4 +1,5 @@
-//! The commands: the sources they read, the sink they write, and the line that tells how they ended.
+//! The commands: the sources they read, the sink they write, and the line that tells how they
+//! ended.
 #![tactic(auto)]
 
 // How a command ended.
