@@ -1,8 +1,7 @@
 use crate::cell_rules::{CellRule, Range, cell_rule};
-use crate::part::Part;
 use crate::record_word::RecordWord;
 use crate::script_facts::Case;
-use crate::text::Text;
+use sentence_text::{Part, Text};
 use sub_base::NoMemory;
 
 /// Puts what the first cell holds that is no number or lies outside its range. Answers whether

@@ -1,7 +1,6 @@
 ghost use Rattle.std.specs.Prelude.{◌≤◌, length};
 
-use crate::part::Part;
-use crate::text::Text;
+use sentence_text::{Part, Text};
 use std::alloc::Global;
 use sub_base::{NoMemory, Words, number_in};
 

@@ -1,6 +1,5 @@
-use crate::part::Part;
-use crate::text::Text;
 use bitmap_font::FontKind;
+use sentence_text::{Part, Text};
 use std::alloc::Global;
 use sub_base::NoMemory;
 

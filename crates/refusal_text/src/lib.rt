@@ -3,11 +3,6 @@
 //! is asked of it, and tells the numbers that there are.
 #![tactic(auto)]
 
-// A sentence, its parts, and what it quotes.
-mod part;
-mod quotation;
-mod text;
-
 // A record of a script: where it stands, what it is, and what its cells may be.
 mod cell_rules;
 mod record;
@@ -34,4 +29,4 @@ pub use font::font_refusal;
 pub use packet::packet_refusal;
 pub use plan::{plan_refusal, schedule_refusal};
 pub use script::script_refusal;
-pub use text::Text;
+pub use sentence_text::Text;

@@ -1,5 +1,4 @@
-use crate::part::Part;
-use crate::text::Text;
+use sentence_text::{Part, Text};
 use std::alloc::Global;
 use stream_syntax::PacketFault;
 use sub_base::NoMemory;

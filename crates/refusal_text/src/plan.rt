@@ -1,10 +1,9 @@
-use crate::part::Part;
 use crate::record::Record;
 use crate::script::font_of;
-use crate::text::Text;
 use cue_list::Script;
 use page_epoch::{Plan, PlanFault};
 use schedule::ScheduleFault;
+use sentence_text::{Part, Text};
 use std::alloc::Global;
 use sub_base::{NoMemory, Profile};
 

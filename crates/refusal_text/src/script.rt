@@ -1,11 +1,10 @@
-use crate::part::Part;
 use crate::record::Record;
 use crate::record_word::RecordWord;
 use crate::script_facts::{Case, put_facts};
 use crate::script_rules::rule_of;
-use crate::text::Text;
 use bitmap_font::Font;
 use cue_list::{Script, ScriptKind};
+use sentence_text::{Part, Text};
 use std::alloc::Global;
 use sub_base::NoMemory;
 

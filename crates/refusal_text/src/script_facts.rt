@@ -1,10 +1,9 @@
 use crate::cell_facts::{put_cell_facts, put_code_facts, put_free_cell};
-use crate::part::Part;
 use crate::record::{Record, cell, last_picture};
 use crate::record_word::RecordWord;
-use crate::text::Text;
 use bitmap_font::Font;
 use cue_list::{CLOSE_TICKS, Epoch, MOST_DIGITS, Region, Script, ScriptKind};
+use sentence_text::{Part, Text};
 use std::alloc::Global;
 use sub_base::{Depth, NoMemory, decimal_number};
 

@@ -1,9 +1,9 @@
-use Rattle.std.proofs.Common.{rules, ◌≡◌, ◌∙◌, ℕ, ◌+◌, ◌<◌, List, ◌++◌, ◌∷◌, [], length, take, slice_index_or, sym, ap}
+use Rattle.std.proofs.Common.{rules, ◌≡◌, ◌∙◌, ℕ, ◌+◌, ◌<◌, List, ◌++◌, length, take, slice_index_or, sym, ap}
 use Rattle.std.specs.List.{flat_map}
 use Rattle.std.proofs.lemmas.List.{flat_map_more, take_all, take_more}
-use Rattle.refusal_text.specs.Parts.{part_text}
-use Rattle.refusal_text.specs.declared.part.Part.{Part}
-use Rattle.refusal_text.proofs.text.Text.say.Goals as goal
+use Rattle.sentence_text.specs.Parts.{part_text}
+use Rattle.sentence_text.specs.declared.part.Part.{Part}
+use Rattle.sentence_text.proofs.text.Text.say.Goals as goal
 
 -- src/text.rt:49:9
 pub loop-part-init : goal.loop-part-init

@@ -1,7 +1,7 @@
 use Rattle.std.proofs.Common.{rules, ◌≡◌, ◌∙◌, ℕ, ◌+◌, ◌<◌, List, ◌++◌, ◌∷◌, [], length, map, take, slice_index_or, append_assoc, sym, ap}
 use Rattle.std.proofs.lemmas.List.{map_more, take_all}
-use Rattle.refusal_text.specs.Quotation.{shown_byte}
-use Rattle.refusal_text.proofs.text.Text.put_shown.Goals as goal
+use Rattle.sentence_text.specs.Quotation.{shown_byte}
+use Rattle.sentence_text.proofs.text.Text.put_shown.Goals as goal
 
 -- src/text.rt:94:9
 pub loop-byte-init : goal.loop-byte-init

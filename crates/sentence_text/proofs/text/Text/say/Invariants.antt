@@ -1,7 +1,7 @@
 use Rattle.std.proofs.Common.{◌≡◌, ◌++◌, take}
 use Rattle.std.specs.List.{flat_map}
-use Rattle.refusal_text.specs.Parts.{part_text}
-use Rattle.refusal_text.proofs.text.Text.say.Given as goal
+use Rattle.sentence_text.specs.Parts.{part_text}
+use Rattle.sentence_text.proofs.text.Text.say.Given as goal
 
 -- the parts before this one stand at the end
 abbrev pub invariant-loop-part : goal.invariant-loop-part

@@ -1,5 +1,5 @@
 ghost use Rattle.std.specs.Prelude.{◌≡◌, ◌≤◌, ◌<◌, length};
-ghost use Rattle.refusal_text.specs.Quotation.{cut_of, is_within as is_within_of, shown_byte};
+ghost use Rattle.sentence_text.specs.Quotation.{cut_of, is_within as is_within_of, shown_byte};
 
 /// How many bytes of a record or line are quoted at the most.
 pub(crate) const MOST_QUOTED: usize = 120;

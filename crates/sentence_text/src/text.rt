@@ -1,8 +1,8 @@
 ghost use Rattle.std.specs.Prelude.{◌≡◌, ◌++◌, ◌∷◌, [], OnOk, map, take, codes};
 ghost use Rattle.std.specs.Fmt.{decimal};
 ghost use Rattle.std.specs.List.{flat_map};
-ghost use Rattle.refusal_text.specs.Quotation.{quoted, shown_byte};
-ghost use Rattle.refusal_text.specs.Parts.{part_text};
+ghost use Rattle.sentence_text.specs.Quotation.{quoted, shown_byte};
+ghost use Rattle.sentence_text.specs.Parts.{part_text};
 
 use crate::part::Part;
 use crate::quotation::{cut, shown};
@@ -27,7 +27,7 @@ impl Model for Text {
 
 impl Text {
     /// The empty text. Takes no memory.
-    pub(crate) fn new(alloc: Global) -> Text
+    pub fn new(alloc: Global) -> Text
         ensures { result ≡ [] }
     {
         Text {
@@ -43,7 +43,7 @@ impl Text {
     }
 
     /// Puts the parts at the end.
-    pub(crate) fn say(&mut self, parts: &[Part<'_>]) -> Result<(), NoMemory>
+    pub fn say(&mut self, parts: &[Part<'_>]) -> Result<(), NoMemory>
         ensures { OnOk result (self.new ≡ self.old ++ flat_map part_text parts.now) }
     {
         for part in parts {
@@ -63,7 +63,7 @@ impl Text {
     }
 
     /// Puts the words at the end.
-    pub(crate) fn put_words(&mut self, words: &str) -> Result<(), NoMemory>
+    pub fn put_words(&mut self, words: &str) -> Result<(), NoMemory>
         ensures { OnOk result (self.new ≡ self.old ++ words.now) }
     {
         self.bytes.extend_from_slice(words.as_bytes())?;

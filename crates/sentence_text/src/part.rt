@@ -1,6 +1,6 @@
 /// A part of a sentence.
 #[derive(Clone, Copy)]
-pub(crate) enum Part<'a> {
+pub enum Part<'a> {
     /// Words.
     Words(&'a str),
     /// A number, in decimal.

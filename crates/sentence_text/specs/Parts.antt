@@ -1,9 +1,9 @@
 -- What a part of a sentence is written as.
 use Rattle.std.specs.Prelude.{ℕ, List}
 use Rattle.std.specs.Fmt.{decimal}
-use Rattle.refusal_text.specs.Quotation.{quoted}
-use Rattle.refusal_text.specs.declared.part.Part.{Part}
-use Rattle.refusal_text.specs.declared.part.Part.TheVariants as part
+use Rattle.sentence_text.specs.Quotation.{quoted}
+use Rattle.sentence_text.specs.declared.part.Part.{Part}
+use Rattle.sentence_text.specs.declared.part.Part.TheVariants as part
 
 -- words as they are, numbers in decimal, and what is quoted
 abbrev pub part_text : Part → List ℕ

@@ -1,6 +1,6 @@
 use Rattle.std.proofs.Common.{◌≡◌, ◌++◌, map, take}
-use Rattle.refusal_text.specs.Quotation.{shown_byte}
-use Rattle.refusal_text.proofs.text.Text.put_shown.Given as goal
+use Rattle.sentence_text.specs.Quotation.{shown_byte}
+use Rattle.sentence_text.proofs.text.Text.put_shown.Given as goal
 
 -- the bytes before this one stand at the end, as they are shown
 abbrev pub invariant-loop-byte : goal.invariant-loop-byte
