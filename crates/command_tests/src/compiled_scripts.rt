@@ -117,7 +117,7 @@ fn sixty_letters_in_each_profile(rt: HostRuntime) -> Result<(), Fail> {
         let done = run(&rt, rt.alloc(), line, SIXTY_LETTERS, LETTER_FONT)?;
         same(&rt, done.status, Status::Done { cut: 0 });
         same(&rt, done.notes.written(), b"done\n".as_slice());
-        same(&rt, done.out.written().len(), 188 * (last + 1));
+        assert_eq!(rt; done.out.written().len(), 188 * (last + 1));
         same(&rt, packets_of_256(done.out.written()), (first, last, 29));
     }
     Ok(())
@@ -147,7 +147,7 @@ fn epochs_follow_each_other(rt: HostRuntime) -> Result<(), Fail> {
     let done = run(&rt, rt.alloc(), COMPILE, TWO_EPOCHS, "")?;
     same(&rt, done.status, Status::Done { cut: 0 });
     let stream = done.out.written();
-    same(&rt, stream.len(), 4 * 188);
+    assert_eq!(rt; stream.len(), 4 * 188);
     assert!(rt; ends_with(stream, 0, &FIRST_UNIT, [0x21, 0x00, 0x05, 0xBF, 0x21]));
     assert!(rt; ends_with(stream, 1, &SECOND_UNIT, [0x21, 0x00, 0x0B, 0x7E, 0x41]));
     let (mut third, mut fourth) = (FIRST_UNIT, SECOND_UNIT);
@@ -163,7 +163,7 @@ fn epochs_follow_each_other(rt: HostRuntime) -> Result<(), Fail> {
 fn long_cues_are_refreshed(rt: HostRuntime) -> Result<(), Fail> {
     let done = run(&rt, rt.alloc(), COMPILE, FORTY_SECONDS, "")?;
     same(&rt, done.status, Status::Done { cut: 0 });
-    same(&rt, done.out.written().len(), 4_597 * 188);
+    assert_eq!(rt; done.out.written().len(), 4_597 * 188);
     same(&rt, packets_of_256(done.out.written()), (0, 4_596, 9));
     Ok(())
 }
@@ -174,7 +174,7 @@ fn programmes_pass_33_bits(rt: HostRuntime) -> Result<(), Fail> {
     let done = run(&rt, rt.alloc(), COMPILE, BEHIND_THE_WRAP, "")?;
     same(&rt, done.status, Status::Done { cut: 0 });
     let stream = done.out.written();
-    same(&rt, stream.len(), 2 * 188);
+    assert_eq!(rt; stream.len(), 2 * 188);
     assert!(rt; ends_with(stream, 0, &FIRST_UNIT, [0x21, 0x00, 0x01, 0x00, 0x01]));
     assert!(rt; ends_with(stream, 1, &SECOND_UNIT, [0x21, 0x00, 0x05, 0xBF, 0x21]));
     let line = "expect script.csv none out.txt 8589934591 8589934592 8590024592";
@@ -405,7 +405,7 @@ fn sets_of_several_packets(rt: HostRuntime) -> Result<(), Fail> {
     let script = script_of_large_pictures(alloc, 300, &[0, 200, 400])?;
     let sent = run(&rt, alloc, line, &script, "")?;
     same(&rt, sent.status, Status::Done { cut: 0 });
-    same(&rt, sent.out.written().len(), 5_001 * 188);
+    assert_eq!(rt; sent.out.written().len(), 5_001 * 188);
     same(
         &rt,
         unit_starts(alloc, sent.out.written())?.as_slice(),

@@ -84,7 +84,7 @@ fn one_cue_becomes_two_packets(rt: HostRuntime) -> Result<(), Fail> {
     same(&rt, done.status, Status::Done { cut: 0 });
     same(&rt, done.notes.written(), b"done\n".as_slice());
     let packets = done.out.written();
-    same(&rt, packets.len(), 376);
+    assert_eq!(rt; packets.len(), 376);
     same(
         &rt,
         &packets[..6],
@@ -125,7 +125,7 @@ fn a_set_done_a_tick_late_is_refused(rt: HostRuntime) -> Result<(), Fail> {
     same(&rt, late.out.written(), b"".as_slice());
     let timely = run(&rt, rt.alloc(), COMPILE, SCRIPT_AT_99)?;
     same(&rt, timely.status, Status::Done { cut: 0 });
-    same(&rt, timely.out.written().len(), 376);
+    assert_eq!(rt; timely.out.written().len(), 376);
     Ok(())
 }
 
@@ -199,7 +199,7 @@ fn sources_and_sinks_that_fail_are_told(rt: HostRuntime) -> Result<(), Fail> {
     same(&rt, unwritten.out.written(), b"".as_slice());
     let untold = run_failing(&rt, rt.alloc(), COMPILE, [SCRIPT, ""], [0, 0, 1])?;
     same(&rt, untold.status, Status::WriteFault(Which::Notes));
-    same(&rt, untold.out.written().len(), 376);
+    assert_eq!(rt; untold.out.written().len(), 376);
     Ok(())
 }
 

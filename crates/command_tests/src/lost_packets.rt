@@ -97,7 +97,7 @@ fn one_to_fourteen_packets_are_lost(rt: HostRuntime) -> Result<(), Fail> {
     let script = seventeen_cues(alloc)?;
     let compiled = run(&rt, alloc, COMPILE, script.as_str(), "")?;
     let packets = sent_packets(alloc, compiled.out.written())?;
-    same(&rt, packets.len(), 188 * SETS);
+    assert_eq!(rt; packets.len(), 188 * SETS);
     for first in 0..SETS {
         let lost = 1 + first * 5 % 14;
         are_shown_again(&rt, alloc, packets.as_slice(), first, first + lost)?;

@@ -109,7 +109,8 @@ fn sets_of_several_units(rt: HostRuntime) -> Result<(), Fail> {
     let script = Script::read(alloc, script_text(alloc)?.as_bytes(), &Font::empty(alloc))?;
     let plan = Plan::make(alloc, &script, &Profile::of(ProfileName::Large))?;
     let sets = plan.sets.as_slice();
-    same(&rt, sets.len(), LOADS.len());
+    // The proof counts the sets by this.
+    assert_eq!(rt; sets.len(), LOADS.len());
     for i in 0..sets.len() {
         let (units, longest) = LOADS[i];
         check_set(&rt, alloc, &script, &sets[i], units, longest)?;

@@ -63,7 +63,7 @@ fn segments_of_a_usual_encoder(rt: HostRuntime) -> Result<(), Fail> {
         (page.time_out, page.version, page.state),
         (10, 0, State::ModeChange),
     );
-    same(&rt, page.count(), 1);
+    assert_eq!(rt; page.count(), 1);
     same(
         &rt,
         page.entry(0),
@@ -92,7 +92,7 @@ fn segments_of_a_usual_encoder(rt: HostRuntime) -> Result<(), Fail> {
         (region.clut, region.code8, region.code4, region.code2),
         (0, 0, 0, 0),
     );
-    same(&rt, region.count(), 1);
+    assert_eq!(rt; region.count(), 1);
     same(
         &rt,
         region.listing(0),

@@ -100,10 +100,10 @@ fn set_that_waits_for_room(rt: HostRuntime) -> Result<(), Fail> {
     let schedule = Schedule::make(rt.alloc(), &loads, 0, &Profile::of(ProfileName::Sd))?;
     same(&rt, schedule.all_slots().len(), 218);
     let first = schedule.slots_of(0);
-    same(&rt, first.len(), 109);
+    assert_eq!(rt; first.len(), 109);
     same(&rt, first[108], 108);
     let second = schedule.slots_of(1);
-    same(&rt, second.len(), 109);
+    assert_eq!(rt; second.len(), 109);
     same(&rt, second[0], 109);
     same(&rt, second[23], 132);
     same(&rt, second[24], 137);
