@@ -1,5 +1,5 @@
 #!/usr/bin/env python3
-"""Lines that are longer than the house's: 100 columns in code and clauses, 120 in definitions and proofs. To be run after `rt fmt`.
+"""Lines that are longer than the limit: 100 columns in code and clauses, 120 in definitions and proofs. To be run after `rt fmt`.
 
     python3 checks/long_lines.py                 how many there are, by file; status 1 where there are some
     python3 checks/long_lines.py --break FILE..  breaks them at an operator of the least depth

@@ -48,7 +48,7 @@ def words():
     put("--size", type=int, metavar="PIXELS", help="the height of a line of a TrueType font (7 %% of the display's)")
     put("--scale", type=int, metavar="N", help="how many times as large a BDF font is drawn (a line of up to 7 %%)")
     put("--style", choices=("box", "outline"), help="what stands behind the letters (box for BDF, outline for TrueType)")
-    put("--clear", type=int, default=64, metavar="T", help="how far the box is seen through, 0 to 255 (64)")
+    put("--clear", type=int, default=64, metavar="T", help="how far the box is seen through, 0 to 254 (64)")
     put("--wide", action="store_true", help="the display's pixels are those of 16:9 in 720 columns (TrueType alone)")
     put("--margin", type=int, default=5, metavar="PERCENT", help="what stays free at each edge of the display (5)")
     put("--lines", type=int, default=3, metavar="N", help="how many lines a place has at most (3)")
