@@ -17,8 +17,9 @@ TOP = pathlib.Path(__file__).resolve().parent.parent
 HEAD = """# Wrong bodies
 
 What `.ci/run` shows to be refused: each is a change of a few words in a file of a crate (`crates/NAME/must-fail/NAME.edit`), after which the crate
-is not proved. Changes in `src/` are wrong bodies; those in `specs/` and `proofs/` turn a definition or a premise, and show that the laws notice.
-This page is made by `python3 checks/wrong_bodies.py`.
+is not proved. Changes in `src/` are wrong bodies, but for those that turn a statement: all in a `src/laws.rt`, and `picture of colours turned`,
+`plan without its display` and `any arrival is the schedule`. These, and those in `specs/` and `proofs/`, which turn a definition or a premise,
+show that a law or clause notices. This page is made by `python3 checks/wrong_bodies.py`.
 """
 
 # How the tables of docs/PROVED.md begin that have an edit in the last cell of a row.
