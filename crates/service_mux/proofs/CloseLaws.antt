@@ -127,7 +127,7 @@ module _ (service : ℕ) (before now : Supplied) (start next : Received) where
       → IsCauseOf (status_at service found (stream.Whole cut))
   whole_caused true out buffer cut is written = record {
     packets = is.0;
-    read = record { rest = is.1; gave = is.2.taken.gave; short = is.4; end = is.6 };
+    read = record { rest = is.1; gave = is.2.taken.gave; within = is.3; short = is.4; end = is.6 };
     synced = all_synced (no_pid service) is.0 is.2.taken.passed;
     found = is.2.told.found;
     written = subst (λ (l : List ℕ). Appends start.written next.written l) is.2.told.bytes written;
@@ -137,7 +137,7 @@ module _ (service : ℕ) (before now : Supplied) (start next : Received) where
         refl,
         record {
           packets = is.0;
-          read = record { rest = is.1; gave = is.2.taken.gave; short = is.4; end = is.6 };
+          read = record { rest = is.1; gave = is.2.taken.gave; within = is.3; short = is.4; end = is.6 };
           synced = all_synced (no_pid service) is.0 is.2.taken.passed;
           none = none.0;
           nothing = subst (λ (l : List ℕ). Appends start.written next.written l) none.1 written;
@@ -177,6 +177,7 @@ module _ (service : ℕ) (before now : Supplied) (start next : Received) where
       packet = is.1;
       rest = is.2;
       gave = is.3.taken.gave;
+      within = is.4;
       synced = all_synced (no_pid service) is.0 is.3.taken.passed;
       whole = is.5;
       no_sync = unsynced (no_pid service) is.1 is.7;

@@ -10,9 +10,9 @@ use Rattle.sub_base.specs.Counts.{counted}
 use Rattle.std.proofs.lemmas.Option.{get_or_from_slice_get, slice_get_within}
 use Rattle.sub_base.specs.Endpoints.{Supplied}
 use Rattle.packet_source.specs.InHand.{InHand, read_count, rest_of, whole_packets}
-use Rattle.packet_source.specs.Packets.{Gave, HasGivenInHand}
+use Rattle.packet_source.specs.Packets.{Gave, HasGivenInHand, IsWithin, stream_length}
 use Rattle.packet_source.specs.declared.limits.TheConstants.{STREAM_LIMIT}
-use Rattle.packet_source.proofs.GaveLaws.{AreLong, Gave-more, Gave-up_to, Gave-whole_packets, bytes_of, length-whole_packets, whole_packets-rest_of, whole_packets_long}
+use Rattle.packet_source.proofs.GaveLaws.{AreLong, Gave-more, Gave-up_to, Gave-whole_packets, bytes_of, length-whole_packets, stream_length-more, whole_packets-rest_of, whole_packets_long}
 use Rattle.service_mux.specs.Private.Lanes.{HasEnded, HasPassed, IsLaneStop, IsSound, Passes, PassesReached, as_list}
 use Rattle.service_mux.specs.StreamReads.{IsRead}
 use Rattle.service_mux.specs.declared.lane.Lane.{Lane}
@@ -81,13 +81,21 @@ gave_nothing source = record { each = All-nil _; bytes = Consumes-nil source.lef
     counted_none : (count : ℕ) → count ≡ counted count 0
     counted_none count = grind arith
 
--- the packets that were passed, and the bytes behind them
-pub record HasGiven (before now : Supplied) (packets : List (List ℕ)) : Type 0 where
+-- the packets that were passed, and the bytes behind them, which are fewer than a packet has where the stream has ended
+pub record HasGiven (before now : Supplied) (lane : Lane) (packets : List (List ℕ)) : Type 0 where
   pub rest : List ℕ
   pub gave : Gave before now packets rest
+  pub within : IsSound lane → IsWithin packets rest
+  pub short : lane.is_ended ≡ true → length rest < 188
+
+-- as many bytes were given as were read
+read_in_all : (before now : Supplied) (lane : Lane) (packets : List (List ℕ))
+    → (past : HasPassed before now lane packets)
+    → stream_length past.earlier lane.packets.bytes ≡ read_count lane.packets
+read_in_all before now lane packets past = omega (arith, past.stands.count)
 
 pub given : (before now : Supplied) (lane : Lane) (packets : List (List ℕ)) → HasPassed before now lane packets
-    → HasGiven before now packets
+    → HasGiven before now lane packets
 given before now lane packets past =
     let bytes = lane.packets.bytes in
     let whole = whole_packets bytes in
@@ -105,18 +113,32 @@ given before now lane packets past =
       rest = rest;
       gave = subst (λ (all : List (List ℕ)). Gave before now all rest) (sym past.passed)
           (Gave-more before now past.earlier front bytes rest past.stands.gave each cut);
+      within = λ sound. subst (λ (all : List (List ℕ)). IsWithin all rest) (sym past.passed)
+          (omega (
+            arith,
+            stream_length-more past.earlier front bytes rest each cut,
+            read_in_all before now lane packets past,
+            sound.limit,
+          ));
+      short = λ ended. omega (
+        arith,
+        ap (λ (l : List ℕ). length l) cut,
+        length-append (bytes_of front) rest,
+        (past.ended ended).short,
+      );
     }
 
 -- the packets that were passed, the one that is reached, and the bytes behind it
-pub record HasGivenNext (before now : Supplied) (packets : List (List ℕ)) (packet : List ℕ) : Type 0 where
+pub record HasGivenNext (before now : Supplied) (lane : Lane) (packets : List (List ℕ)) (packet : List ℕ) : Type 0 where
   pub rest : List ℕ
   pub gave : Gave before now packets (packet ++ rest)
+  pub within : IsSound lane → IsWithin packets (packet ++ rest)
   pub long : length packet ≡ 188
 
 pub given_next : (before now : Supplied) (lane : Lane) (packets : List (List ℕ)) (packet : List ℕ)
     → HasPassed before now lane packets
     → slice_get (whole_packets lane.packets.bytes) lane.next ≡ Some packet
-    → HasGivenNext before now packets packet
+    → HasGivenNext before now lane packets packet
 given_next before now lane packets packet past is =
     let bytes = lane.packets.bytes in
     let whole = whole_packets bytes in
@@ -129,13 +151,16 @@ given_next before now lane packets packet past is =
       gave = subst (λ (all : List (List ℕ)). Gave before now all (packet ++ up_to.rest)) (sym past.passed)
           (subst (λ (p : List ℕ). Gave before now (past.earlier ++ take lane.next whole) (p ++ up_to.rest)) here
           up_to.gave);
+      within = λ sound. subst (λ (all : List (List ℕ)). IsWithin all (packet ++ up_to.rest)) (sym past.passed)
+          (subst (λ (p : List ℕ). IsWithin (past.earlier ++ take lane.next whole) (p ++ up_to.rest)) here
+          (omega (arith, up_to.same, read_in_all before now lane packets past, sound.limit)));
       long = ap length (sym here) ∙ up_to.long;
     }
 
 -- a stream that has ended gave these packets, and a rest that is shorter than one
 pub given_all : (before now : Supplied) (lane : Lane) (packets : List (List ℕ))
-    → HasPassed before now lane packets → lane.is_ended ≡ true → IsRead before now packets
-given_all before now lane packets past ended =
+    → HasPassed before now lane packets → IsSound lane → lane.is_ended ≡ true → IsRead before now packets
+given_all before now lane packets past sound ended =
     let end = past.ended ended in
     let none : whole_packets lane.packets.bytes ≡ [] =
     nil_from_length (whole_packets lane.packets.bytes) (none_in_hand lane.packets.bytes end.short) in
@@ -146,6 +171,8 @@ given_all before now lane packets past ended =
     record {
       rest = lane.packets.bytes;
       gave = subst (λ (p : List (List ℕ)). Gave before now p lane.packets.bytes) (sym all) past.stands.gave;
+      within = subst (λ (p : List (List ℕ)). IsWithin p lane.packets.bytes) (sym all)
+          (omega (arith, read_in_all before now lane packets past, sound.limit));
       short = end.short;
       end = end.end;
     }

@@ -4,6 +4,7 @@ pub mod JoinLaws
 pub mod JoinSteps
 pub mod LaneLaws
 pub mod ServicesAgain
+pub mod StopLaws
 pub mod TableLaws
 pub mod TakeLaws
 pub mod TakenLaws

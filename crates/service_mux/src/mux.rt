@@ -101,7 +101,8 @@ fn put_all<A: Source, B: Source, K: Sink>(
     requires first { (now : Supplied) → HasPassed now now mux.old.one.lane [] }
     requires second { (now : Supplied) → HasPassed now now mux.old.two.lane [] }
     requires sound { IsSound mux.old.one.lane × IsSound mux.old.two.lane }
-    ensures { IsToolCause (mux_causes mux.old.pair
+    // What is written of services that differ gives each of them again.
+    ensures { AreServices mux.old.pair → IsToolCause (mux_causes mux.old.pair
         (seen (A.supplied first.old) (B.supplied second.old) (K.received out.old))
         (seen (A.supplied first.new) (B.supplied second.new) (K.received out.new)))
         (seen (A.supplied first.old) (B.supplied second.old) (K.received out.old))

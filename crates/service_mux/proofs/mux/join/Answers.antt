@@ -1,4 +1,4 @@
-use Rattle.service_mux.proofs.JoinLaws.{nothing_muxed}
+use Rattle.service_mux.proofs.StopLaws.{nothing_muxed}
 use Rattle.service_mux.proofs.mux.join.Goals as goal
 
 pub returns-in_default : goal.returns-in_default

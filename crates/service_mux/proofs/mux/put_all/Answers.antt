@@ -11,8 +11,9 @@ use Rattle.service_mux.specs.declared.lane.Lane.{Lane}
 use Rattle.service_mux.specs.declared.mux_fault.MuxFault.{MuxFault}
 use Rattle.service_mux.specs.declared.mux_fault.MuxFault.TheVariants as mux
 use Rattle.service_mux.specs.declared.mux_words.ServicePair.{ServicePair}
-use Rattle.service_mux.proofs.JoinLaws.{IsCaused, closed, done_by, first_stopped, first_unsynced_by, goes_further, join_more, second_stopped, second_unsynced_by, some_more, unwritten}
+use Rattle.service_mux.proofs.JoinLaws.{goes_further, join_more, some_more}
 use Rattle.service_mux.proofs.JoinSteps.{few_frames, first_on, join_none, second_on}
+use Rattle.service_mux.proofs.StopLaws.{IsCaused, closed, done_by, first_stopped, first_unsynced_by, second_stopped, second_unsynced_by, unwritten}
 use Rattle.service_mux.proofs.mux.put_all.Goals as goal
 
 pub loop-mux-init : goal.loop-mux-init
@@ -33,7 +34,7 @@ loop-mux-init g c =
     }
 
 pub returns-in-Err : goal.returns-in-Err
-returns-in-Err g c =
+returns-in-Err g c are =
     let start : Seen =
     seen (g.A.Source.supplied c.args.first.now) (g.B.Source.supplied c.args.second.now)
     (g.K.Sink.received c.args.out.now) in
@@ -56,7 +57,7 @@ returns-in-Err g c =
     (c.close_tool.ensures start.out _ c.loop-mux.invariant.joined.out)
 
 pub returns-then-lacks_sync : goal.returns-then-lacks_sync
-returns-then-lacks_sync g c =
+returns-then-lacks_sync g c are =
     let start : Seen =
     seen (g.A.Source.supplied c.args.first.now) (g.B.Source.supplied c.args.second.now)
     (g.K.Sink.received c.args.out.now) in
@@ -70,11 +71,12 @@ returns-then-lacks_sync g c =
     closed pair start _ _ (g.K.Sink.received c.close_tool-then-lacks_sync.new.out) _ _ frame passed
     (tool.Refused (mux.FirstNoSync frame)) c.close_tool-then-lacks_sync.result
     (first_unsynced_by pair start _ _ (g.K.Sink.received c.close_tool-then-lacks_sync.new.out) _ _ frame passed
-    c.in-Ok.more c.in-Ok.ensures.reached (sym c.lacks_sync.ensures ∙ c.if-lacks_sync.true))
+    c.in-Ok.ensures.sound c.loop-mux.invariant.sound.1 c.in-Ok.more c.in-Ok.ensures.reached
+    (sym c.lacks_sync.ensures ∙ c.if-lacks_sync.true))
     (c.close_tool-then-lacks_sync.ensures start.out _ c.loop-mux.invariant.joined.out)
 
 pub returns-in-Err-reach : goal.returns-in-Err-reach
-returns-in-Err-reach g c =
+returns-in-Err-reach g c are =
     let start : Seen =
     seen (g.A.Source.supplied c.args.first.now) (g.B.Source.supplied c.args.second.now)
     (g.K.Sink.received c.args.out.now) in
@@ -103,7 +105,7 @@ returns-in-Err-reach g c =
     (c.close_tool-in-Err-reach.ensures start.out _ c.loop-mux.invariant.joined.out)
 
 pub returns-then-lacks_sync-2 : goal.returns-then-lacks_sync-2
-returns-then-lacks_sync-2 g c =
+returns-then-lacks_sync-2 g c are =
     let start : Seen =
     seen (g.A.Source.supplied c.args.first.now) (g.B.Source.supplied c.args.second.now)
     (g.K.Sink.received c.args.out.now) in
@@ -122,12 +124,13 @@ returns-then-lacks_sync-2 g c =
     closed pair start _ _ (g.K.Sink.received c.close_tool-then-lacks_sync-2.new.out) _ _ frame passed
     (tool.Refused (mux.SecondNoSync frame)) c.close_tool-then-lacks_sync-2.result
     (second_unsynced_by pair start _ _ (g.K.Sink.received c.close_tool-then-lacks_sync-2.new.out) _ _ frame passed
-    c.in-Ok.more c.in-Ok-reach.more c.in-Ok.ensures.reached (sym c.lacks_sync.ensures ∙ c.if-lacks_sync.false)
+    c.in-Ok.ensures.sound c.in-Ok-reach.ensures.sound c.in-Ok.more c.in-Ok-reach.more c.in-Ok.ensures.reached
+    (sym c.lacks_sync.ensures ∙ c.if-lacks_sync.false)
     c.in-Ok-reach.ensures.reached (sym c.lacks_sync-in-loop-mux.ensures ∙ c.if-lacks_sync-2.true))
     (c.close_tool-then-lacks_sync-2.ensures start.out _ c.loop-mux.invariant.joined.out)
 
 pub returns-then-is_end : goal.returns-then-is_end
-returns-then-is_end g c =
+returns-then-is_end g c are =
     let start : Seen =
     seen (g.A.Source.supplied c.args.first.now) (g.B.Source.supplied c.args.second.now)
     (g.K.Sink.received c.args.out.now) in
@@ -145,7 +148,8 @@ returns-then-is_end g c =
     c.reach-in-loop-mux.ensures.kept in
     closed pair start _ _ (g.K.Sink.received c.close_tool-then-is_end.new.out) _ _ frame passed tool.Done
     c.close_tool-then-is_end.result
-    (done_by pair start _ _ (g.K.Sink.received c.close_tool-then-is_end.new.out) _ _ frame passed c.in-Ok.more
+    (done_by pair start _ _ (g.K.Sink.received c.close_tool-then-is_end.new.out) _ _ frame passed are
+    c.in-Ok.ensures.sound c.in-Ok-reach.ensures.sound c.in-Ok.more
     c.in-Ok-reach.more c.in-Ok.ensures.reached c.in-Ok-reach.ensures.reached
     (sym c.is_end.ensures ∙ c.if-is_end.true))
     (c.close_tool-then-is_end.ensures start.out _ c.loop-mux.invariant.joined.out)
@@ -216,7 +220,7 @@ loop-mux-preserved g c =
     }
 
 pub returns : goal.returns
-returns g c =
+returns g c are =
     let start : Seen =
     seen (g.A.Source.supplied c.args.first.now) (g.B.Source.supplied c.args.second.now)
     (g.K.Sink.received c.args.out.now) in
