@@ -5,7 +5,7 @@ use Rattle.command_words.specs.Ticks.{asked_ticks}
 use Rattle.dump_text.specs.DumpText.{IsDumpText, anchor_of, asked_for}
 use Rattle.packet_walk.specs.ToldEnds.{IsToldEnd}
 use Rattle.sub_base.specs.declared.profile.Profile.{Profile}
-use Rattle.page_pair.proofs.DumpLaws.{dump_cause, dump_unread, early_anchor}
+use Rattle.page_pair.proofs.DumpLaws.{dump_cause, dump_told, early_anchor}
 use Rattle.page_pair.proofs.pair_dump.pair_dump.Goals as goal
 
 pub dump_stream-requires-clause-asked : goal.dump_stream-requires-clause-asked
@@ -37,8 +37,8 @@ returns-clause-cause g c =
     λ second. dump_cause dump (asked_ticks 8 c.args.words.now) before now second start next c.dump_stream.result
     c.status_of_end.result c.status_of_end.ensures ended
 
-pub returns-clause-unread : goal.returns-clause-unread
-returns-clause-unread g c =
+pub returns-clause-told : goal.returns-clause-told
+returns-clause-told g c =
     let dump = c.args.dump in
     let before = g.A.Source.supplied c.args.stream.now in
     let now = g.A.Source.supplied c.dump_stream.new.stream in
@@ -50,5 +50,5 @@ returns-clause-unread g c =
     let ended =
     subst (λ (profile : Profile). IsEnd profile (asked_ticks 8 c.args.words.now)) c.of-profile.ensures
     (subst (IsEnd c.of-profile.result) (c.as_slice.ensures.value ∙ c.in-Ok.ensures) c.dump_stream.ensures) in
-    λ second. dump_unread dump (asked_ticks 8 c.args.words.now) before now second start next c.dump_stream.result
+    λ second. dump_told dump (asked_ticks 8 c.args.words.now) before now second start next c.dump_stream.result
     c.status_of_end.result c.status_of_end.ensures ended
