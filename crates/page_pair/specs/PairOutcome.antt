@@ -94,7 +94,8 @@ pub record AreSuited (sent : SentPlan) : Type 0 where
       → IsAnchorOf (first_times_from missed (sent_sets sent.table sent.sets)) anchor
 
 -- Both scripts were read and are sent in the packets that were written; and a receiver of each page shows what its
--- script authors, wherever it enters, with any anchor that suits the sets of its script's plan, of which there are some.
+-- script authors, wherever it enters, with any anchor that suits the sets of its script's plan; and there are such
+-- anchors.
 pub record IsPaired (pairing : Pairing) (before now : Seen) : Type 0 where
   pub first : Script
   pub second : Script

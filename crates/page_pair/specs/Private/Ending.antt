@@ -25,7 +25,7 @@ IsAsked words (Some (command.Pair pairing)) = IsPairing pairing
 IsAsked words (Some (command.Dump dump)) = IsPairDumping words dump
 
 -- two scripts were sent: all packets were written, and a receiver of each page shows what its script authors, with each
--- anchor that suits the sets of its plan, of which there are some
+-- anchor that suits the sets of its plan; and there are such anchors
 pub record IsSent (pairing : Pairing) (first second : Script)
     (before now : Received) : Type 0 where
   pub packets : List (List ℕ)
