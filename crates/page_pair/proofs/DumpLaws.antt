@@ -13,7 +13,7 @@ use Rattle.dump_text.specs.DumpText.{anchor_of}
 use Rattle.packet_walk.specs.ToldEnds.{IsFront, IsToldEnd, IsUpToFailure}
 use Rattle.packet_walk.specs.declared.told_end.ToldEnd.{ToldEnd}
 use Rattle.packet_walk.specs.declared.told_end.ToldEnd.TheVariants as told_end
-use Rattle.page_pair.specs.PairDump.{IsDumpUnread, dump_causes, dump_status, tells_pair}
+use Rattle.page_pair.specs.PairDump.{HasDumpedRead, dump_causes, dump_status, tells_pair}
 use Rattle.page_pair.specs.declared.pair_dump.PairDump.{PairDump}
 use Rattle.page_pair.specs.declared.pair_fault.PairFault.{PairFault}
 
@@ -60,17 +60,17 @@ module _ (dump : PairDump) (ticks : List ℕ) (before now second : Supplied) (st
       subst (IsToolCause (dump_causes ticks dump (seen before second start) (seen now second next))
       (seen before second start) (seen now second next)) (sym is) (of_end end h)
 
-  unread_end : (end : ToldEnd) → IsToldEnd (tells_pair dump ticks) dump.pid before now start next end
-      → IsDumpUnread ticks dump (seen before second start) (seen now second next) (dump_status end)
-  unread_end (told_end.Done cut) h = tt
-  unread_end (told_end.Refused refused) h = tt
-  unread_end told_end.Unread h = h.1
-  unread_end told_end.TooLong h = tt
-  unread_end told_end.Unwritten h = tt
-  unread_end told_end.Memory h = tt
+  told_at : (end : ToldEnd) → IsToldEnd (tells_pair dump ticks) dump.pid before now start next end
+      → HasDumpedRead ticks dump (seen before second start) (seen now second next) (dump_status end)
+  told_at (told_end.Done cut) h = tt
+  told_at (told_end.Refused refused) h = tt
+  told_at told_end.Unread h = h.1
+  told_at told_end.TooLong h = tt
+  told_at told_end.Unwritten h = tt
+  told_at told_end.Memory h = h
 
-  pub dump_unread : (end : ToldEnd) (status : ToolStatus PairFault) → status ≡ dump_status end
+  pub dump_told : (end : ToldEnd) (status : ToolStatus PairFault) → status ≡ dump_status end
       → IsToldEnd (tells_pair dump ticks) dump.pid before now start next end
-      → IsDumpUnread ticks dump (seen before second start) (seen now second next) status
-  dump_unread end status is h =
-      subst (IsDumpUnread ticks dump (seen before second start) (seen now second next)) (sym is) (unread_end end h)
+      → HasDumpedRead ticks dump (seen before second start) (seen now second next) status
+  dump_told end status is h =
+      subst (HasDumpedRead ticks dump (seen before second start) (seen now second next)) (sym is) (told_at end h)

@@ -5,13 +5,17 @@ use Rattle.std.specs.Io.KnownBytes.{Appends}
 use Rattle.std.proofs.KnownBytes.{Keeps-refl}
 use Rattle.std.proofs.lemmas.List.Elements.{All-from_recursion, recursion_from_All}
 use Rattle.cue_list.specs.declared.script.Script.{Script}
+use Rattle.page_epoch.specs.Plan.{IsPlan}
 use Rattle.page_epoch.specs.declared.planned_set.PlannedSet.{PlannedSet}
 use Rattle.schedule.specs.Slots.{Timetable}
+use Rattle.script_stream.proofs.ShownLaws.{anchor_suits}
 use Rattle.sent_sets.proofs.SentLaws.{is_free}
 use Rattle.sent_sets.proofs.SentLists.{known_sets}
 use Rattle.sent_sets.proofs.SentPackets.{all_room, sent_packets, stream_packets}
 use Rattle.sent_sets.specs.RawSets.{EndsLast, IsSendable}
-use Rattle.shown_stream.specs.SentPlan.{IsSentPlan}
+use Rattle.shown_stream.proofs.Shown.FirstTimes.{first_of_all_times}
+use Rattle.shown_stream.specs.SentPlan.{IsSentPlan, SentPlan}
+use Rattle.shown_stream.specs.SentSets.{sent_sets}
 use Rattle.stream_syntax.specs.declared.wire.TheConstants.{NULL_PID}
 use Rattle.sub_base.specs.Endpoints.{Received, WroteNothing}
 use Rattle.sub_base.specs.Pace.{pace_of}
@@ -23,7 +27,7 @@ use Rattle.sub_base.specs.declared.status.ToolStatus.TheVariants as tool
 use Rattle.sub_base.specs.declared.status.Which.{Which}
 use Rattle.sub_base.specs.declared.status.Which.TheVariants as which
 use Rattle.page_pair.proofs.PairLaws.{pair_entered, pair_sent}
-use Rattle.page_pair.specs.PairOutcome.{ArePagesApart, AreScriptsRead, IsPairRefused, IsUnsendable, ReadsPlainScript, first_pages, pair_causes, first_sent}
+use Rattle.page_pair.specs.PairOutcome.{ArePagesApart, AreScriptsRead, AreSuited, IsPairRefused, IsUnsendable, ReadsPlainScript, first_pages, pair_causes, first_sent, second_sent}
 use Rattle.page_pair.specs.PairStream.{IsPairedTo}
 use Rattle.page_pair.specs.PairTop.{HasKept, HasToldWhole}
 use Rattle.page_pair.specs.Private.Ending.{IsSendEnd, IsSent}
@@ -67,6 +71,16 @@ planned_packets pairing first sets table bytes free plan =
       joined = sent.sent ∙ stream.joined;
     }
 
+-- the times of a plan's sets have anchors
+are_suited : (sent : SentPlan) → IsPlan sent.script (profile_of sent.profile) sent.sets → AreSuited sent
+are_suited sent plan = record {
+  suits = λ missed anchor early near.
+      anchor_suits sent.profile sent.script sent.table sent.sets missed anchor plan early near;
+  first_suits = λ missed anchor early near.
+      first_of_all_times anchor missed (sent_sets sent.table sent.sets)
+      (anchor_suits sent.profile sent.script sent.table sent.sets missed anchor plan early near);
+}
+
 -- all packets were written
 pub sent_whole : (pairing : Pairing) (first second : Script) (bytes : List ℕ)
     (before now : Received) → pairing.pid < NULL_PID → ArePagesApart pairing.pages
@@ -87,6 +101,8 @@ sent_whole pairing first second bytes before now free apart paired written =
           (pair_entered pairing first second cut.packets free apart cut.whole same missed).0;
       second_shown = λ missed.
           (pair_entered pairing first second cut.packets free apart cut.whole same missed).1;
+      first_suited = are_suited (first_sent pairing first same.one same.table) same.plans.first_plan;
+      second_suited = are_suited (second_sent pairing second same.two same.table) same.plans.second_plan;
     }
 
 -- ---- how it ends
@@ -120,6 +136,8 @@ module _ (pairing : Pairing) (before now : Seen) where
     written = end.written;
     first_shown = end.first_shown;
     second_shown = end.second_shown;
+    first_suited = end.first_suited;
+    second_suited = end.second_suited;
   }
   send_caused first second tool.Usage read end = absurd end
   send_caused first second (tool.Refused fault) read end = (refused first second fault read end.0, end.1)

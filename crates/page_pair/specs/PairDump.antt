@@ -99,8 +99,14 @@ dump_causes ticks dump before now = record {
   limit = STREAM_LIMIT;
 }
 
--- where the first source failed, the output has received the texts of the packets that were read whole
-abbrev pub IsDumpUnread : List ℕ → PairDump → Seen → Seen → ToolStatus PairFault → Type 0
-IsDumpUnread ticks dump before now (tool.ReadFault which) =
+-- where the first source failed, the output has received the texts of the packets that were read whole; where memory is
+-- wanting, nothing was read or written
+abbrev pub HasDumpedRead : List ℕ → PairDump → Seen → Seen → ToolStatus PairFault → Type 0
+HasDumpedRead ticks dump before now (tool.ReadFault which) =
     IsUpToFailure (tells_pair dump ticks) dump.pid before.first now.first before.out now.out
-IsDumpUnread ticks dump before now status = Unit {0}
+HasDumpedRead ticks dump before now tool.Memory = (now.first ≡ before.first) × WroteNothing before.out now.out
+HasDumpedRead ticks dump before now tool.Done = Unit {0}
+HasDumpedRead ticks dump before now tool.Usage = Unit {0}
+HasDumpedRead ticks dump before now (tool.Refused fault) = Unit {0}
+HasDumpedRead ticks dump before now (tool.WriteFault which) = Unit {0}
+HasDumpedRead ticks dump before now (tool.InputTooLong which) = Unit {0}

@@ -1,5 +1,5 @@
 -- How `pair` ends: when it is done, what it refuses, what a receiver of each page shows, and what the output has.
-use Rattle.std.specs.Prelude.{◌≡◌, ◌≢◌, ℕ, ◌≤◌, ◌⊎◌, false, List, length, All, codes}
+use Rattle.std.specs.Prelude.{◌≡◌, ◌≢◌, ℕ, ◌+◌, ◌<◌, ◌≤◌, ◌⊎◌, false, List, length, All, codes}
 use Rattle.std.specs.List.{concat}
 use Rattle.std.specs.Io.KnownBytes.{Appends}
 use Rattle.sub_base.specs.Endpoints.{AppendsPrefix, Supplied, WroteNothing}
@@ -10,6 +10,7 @@ use Rattle.sub_base.specs.ToolOutcome.{Causes}
 use Rattle.sub_base.specs.declared.load.TheConstants.{UNIT_ROOM}
 use Rattle.sub_base.specs.declared.load.WriteLoad.{WriteLoad}
 use Rattle.sub_base.specs.declared.profile.ProfileName.{ProfileName}
+use Rattle.cue_list.specs.declared.limits.TheConstants.{LONGEST_SCRIPT}
 use Rattle.cue_list.specs.declared.script.Script.{Script}
 use Rattle.decoder_model.specs.declared.pages.Pages.{Pages}
 use Rattle.page_epoch.specs.Plan.{IsPlan}
@@ -21,6 +22,9 @@ use Rattle.script_input.specs.ReadScript.{IsScriptRefused, ReadsScript, text_lim
 use Rattle.script_stream.specs.Refused.{IsPlanRefused, IsRowOf}
 use Rattle.shown_stream.specs.Entered.{IsEnteredRightly}
 use Rattle.shown_stream.specs.SentPlan.{SentPlan}
+use Rattle.shown_stream.specs.SentSets.{sent_sets, first_times_from, times_from}
+use Rattle.shown_stream.specs.Shows.{IsAnchorOf}
+use Rattle.stream_syntax.specs.declared.wire.TheConstants.{TIME_ROUND}
 use Rattle.page_pair.specs.PairSets.{Paged, segments_size}
 use Rattle.page_pair.specs.PairStream.{ArePairLoads, ArePairPlans, ArePairSets, HaveEqualHeads, IsOtherHead, IsPairedTo, IsPairTooLong, IsUneven}
 use Rattle.page_pair.specs.declared.pages.TwoPages.{TwoPages}
@@ -78,8 +82,20 @@ pub record AreScriptsRead (before now : Seen) (first second : Script) : Type 0 w
 
 -- ---- done
 
+-- Wherever a receiver that the sets of a plan are sent for enters, each anchor that is no later than the script's
+-- origin, and less than 2 to the 33 ticks before the end of the longest script, as the origin itself is, suits the sets
+-- of which packets come, and those up to the first that comes whole.
+pub record AreSuited (sent : SentPlan) : Type 0 where
+  pub suits : (missed anchor : ℕ) → anchor ≤ sent.script.origin
+      → sent.script.origin + LONGEST_SCRIPT < anchor + TIME_ROUND
+      → IsAnchorOf (times_from missed (sent_sets sent.table sent.sets)) anchor
+  pub first_suits : (missed anchor : ℕ) → anchor ≤ sent.script.origin
+      → sent.script.origin + LONGEST_SCRIPT < anchor + TIME_ROUND
+      → IsAnchorOf (first_times_from missed (sent_sets sent.table sent.sets)) anchor
+
 -- Both scripts were read and are sent in the packets that were written; and a receiver of each page shows what its
--- script authors, wherever it enters.
+-- script authors, wherever it enters, with any anchor that suits the sets of its script's plan; and there are such
+-- anchors.
 pub record IsPaired (pairing : Pairing) (before now : Seen) : Type 0 where
   pub first : Script
   pub second : Script
@@ -93,6 +109,8 @@ pub record IsPaired (pairing : Pairing) (before now : Seen) : Type 0 where
       missed
   pub second_shown : (missed : ℕ) → IsEnteredRightly (second_sent pairing second paired.two paired.table)
       packets missed
+  pub first_suited : AreSuited (first_sent pairing first paired.one paired.table)
+  pub second_suited : AreSuited (second_sent pairing second paired.two paired.table)
 
 -- ---- refused
 

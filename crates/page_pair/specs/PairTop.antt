@@ -6,7 +6,7 @@ use Rattle.sub_base.specs.Seen.{Seen}
 use Rattle.sub_base.specs.ToolOutcome.{Causes}
 use Rattle.sub_base.specs.declared.status.ToolStatus.{ToolStatus}
 use Rattle.sub_base.specs.declared.status.ToolStatus.TheVariants as tool
-use Rattle.page_pair.specs.PairDump.{IsDumpUnread, dump_causes, dump_words}
+use Rattle.page_pair.specs.PairDump.{HasDumpedRead, dump_causes, dump_words}
 use Rattle.page_pair.specs.PairOutcome.{pair_causes}
 use Rattle.page_pair.specs.PairWords.{pair_words}
 use Rattle.page_pair.specs.declared.pair_command.PairCommand.{PairCommand}
@@ -39,7 +39,8 @@ abbrev pub HasKept : Option PairCommand → Seen → Seen → ToolStatus PairFau
 HasKept (Some (command.Pair pairing)) before now tool.Memory = WroteNothing before.out now.out
 HasKept asked before now status = Unit {0}
 
--- where the stream could not be read, `pairdump` has written the texts of the packets that were read whole
+-- where the stream could not be read, `pairdump` has written the texts of the packets that were read whole; where
+-- memory is wanting, it has read and written nothing
 abbrev pub HasToldWhole : List ℕ → Option PairCommand → Seen → Seen → ToolStatus PairFault → Type 0
-HasToldWhole ticks (Some (command.Dump dump)) before now status = IsDumpUnread ticks dump before now status
+HasToldWhole ticks (Some (command.Dump dump)) before now status = HasDumpedRead ticks dump before now status
 HasToldWhole ticks asked before now status = Unit {0}

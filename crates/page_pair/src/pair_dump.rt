@@ -5,7 +5,7 @@ ghost use Rattle.command_words.specs.Ticks.{are_rising as are_ticks_rising, aske
 ghost use Rattle.sub_base.specs.Endpoints.{Supplied};
 ghost use Rattle.sub_base.specs.Seen.{seen};
 ghost use Rattle.sub_base.specs.ToolOutcome.{IsToolCause};
-ghost use Rattle.page_pair.specs.PairDump.{IsDumpUnread, IsPairDumping, dump_causes, dump_places, dump_status, dump_words as dump_words_of};
+ghost use Rattle.page_pair.specs.PairDump.{HasDumpedRead, IsPairDumping, dump_causes, dump_places, dump_status, dump_words as dump_words_of};
 
 use crate::pair_fault::PairFault;
 use command_words::{
@@ -97,10 +97,10 @@ pub(crate) fn pair_dump<R: Threads + Sync, A: Source, K: Sink, G: BandGate + Syn
         let before = seen (A.supplied stream.old) second (K.received out.old) in
         let now = seen (A.supplied stream.new) second (K.received out.new) in
         IsToolCause (dump_causes (asked_ticks 8 words.now) dump before now) before now result }
-    ensures unread { (second : Supplied) →
+    ensures told { (second : Supplied) →
         let before = seen (A.supplied stream.old) second (K.received out.old) in
         let now = seen (A.supplied stream.new) second (K.received out.new) in
-        IsDumpUnread (asked_ticks 8 words.now) dump before now result }
+        HasDumpedRead (asked_ticks 8 words.now) dump before now result }
 {
     let Ok(ticks) = ticks_of(alloc, words, WORDS_OF_DUMP) else {
         return ToolStatus::Memory;

@@ -54,7 +54,7 @@ pub fn pair_top<R: Threads + Sync, A: Source, B: Source, K: Sink, N: Sink, G: Ba
         (seen (A.supplied first.new) (B.supplied second.new) (K.received out.new)) result }
 
     // Where its stream could not be read, `pairdump` has written the texts of the packets that were
-    // read whole.
+    // read whole; where memory is wanting, it has read and written nothing.
     ensures told { HasToldWhole (asked_ticks 8 words.now) (pair_command words.now)
         (seen (A.supplied first.old) (B.supplied second.old) (K.received out.old))
         (seen (A.supplied first.new) (B.supplied second.new) (K.received out.new)) result }

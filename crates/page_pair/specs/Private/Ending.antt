@@ -10,7 +10,7 @@ use Rattle.sub_base.specs.declared.status.ToolStatus.{ToolStatus}
 use Rattle.sub_base.specs.declared.status.ToolStatus.TheVariants as tool
 use Rattle.sub_base.specs.declared.status.Which.TheVariants as which
 use Rattle.page_pair.specs.PairDump.{IsPairDumping}
-use Rattle.page_pair.specs.PairOutcome.{IsUnsendable, first_sent, second_sent}
+use Rattle.page_pair.specs.PairOutcome.{AreSuited, IsUnsendable, first_sent, second_sent}
 use Rattle.page_pair.specs.PairStream.{IsPairedTo}
 use Rattle.page_pair.specs.PairWords.{IsPairing}
 use Rattle.page_pair.specs.declared.pair_command.PairCommand.{PairCommand}
@@ -24,7 +24,8 @@ IsAsked words None = Unit {0}
 IsAsked words (Some (command.Pair pairing)) = IsPairing pairing
 IsAsked words (Some (command.Dump dump)) = IsPairDumping words dump
 
--- two scripts were sent: all packets were written, and a receiver of each page shows what its script authors
+-- two scripts were sent: all packets were written, and a receiver of each page shows what its script authors, with each
+-- anchor that suits the sets of its plan; and there are such anchors
 pub record IsSent (pairing : Pairing) (first second : Script)
     (before now : Received) : Type 0 where
   pub packets : List (List ℕ)
@@ -35,6 +36,8 @@ pub record IsSent (pairing : Pairing) (first second : Script)
       → IsEnteredRightly (first_sent pairing first paired.one paired.table) packets missed
   pub second_shown : (missed : ℕ)
       → IsEnteredRightly (second_sent pairing second paired.two paired.table) packets missed
+  pub first_suited : AreSuited (first_sent pairing first paired.one paired.table)
+  pub second_suited : AreSuited (second_sent pairing second paired.two paired.table)
 
 -- the sink failed, and has a front of the packets
 abbrev pub IsFront : Pairing → Script → Script → Received → Received → Type 0

@@ -24,4 +24,4 @@ returns-in-Some-Dump-clause-told g c =
     let now = seen (g.A.Source.supplied c.pair_dump.new.stream) second (g.K.Sink.received c.pair_dump.new.out) in
     subst (λ (asked : Option PairCommand). HasToldWhole (asked_ticks 8 words) asked before now c.pair_dump.result)
     (ap Some (sym c.in-Some-Dump.field-0-is) ∙ c.in-Some-Dump.ensures.command)
-    (c.pair_dump.ensures.unread second)
+    (c.pair_dump.ensures.told second)
