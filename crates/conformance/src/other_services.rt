@@ -1,9 +1,11 @@
 use crate::running::{Asked, done, ends_as, reading, run, sound};
 use crate::same::same;
-use samples::first_run::{FIRST_UNIT, PICTURES, SCRIPT, SECOND_UNIT};
+use samples::first_run::{FIRST_UNIT, FONT, PICTURES, SCRIPT, SECOND_UNIT};
 use samples::streams::packet_of;
 use std::alloc::Global;
+use std::process::Abort;
 use std::test::Fail;
+use std::thread::Threads;
 
 // What the first run has for PID 256 and page 1, for services at the edges of what words may say.
 
@@ -92,6 +94,117 @@ fn a_stream_is_told_for_any_service(rt: HostRuntime) -> Result<(), Fail> {
             let asked = reading(line, stream.as_slice());
             ends_as(&rt, alloc, &asked, sound(1_000), done(text.as_bytes()))?;
         }
+    }
+    Ok(())
+}
+
+/// A cue of two lines of text.
+const SCRIPT_OF_TEXT: &str = "origin,0\n\
+     display,20,8\n\
+     refresh,5\n\
+     epoch,90000\n\
+     region,0,0,0,20,8,4,0\n\
+     cue,90000,180000,0,0,0,1,0,\"A\nAA\"\n";
+
+/// A page id that no service has, for what a pair of scripts sends for both.
+const SHARED_PAGE: u16 = 65_000;
+
+/// What is compiled of the script is what the tool puts out of it, as all its records are there at
+/// once.
+fn is_sent_live<R: Threads + Sync + Abort>(
+    rt: &R,
+    alloc: Global,
+    words: &str,
+    script: &str,
+    font: &str,
+) -> Result<(), Fail> {
+    let compile = format!(in alloc; "compile {words} out.ts")?;
+    let live = format!(in alloc; "live {words} out.ts")?;
+    let asked = Asked {
+        line: compile.as_str(),
+        first: script.as_bytes(),
+        second: font.as_bytes(),
+    };
+    let compiled = run(rt, alloc, &asked, sound(100_000))?;
+    same(rt, compiled.code, 0);
+    let asked = Asked {
+        line: live.as_str(),
+        ..asked
+    };
+    ends_as(
+        rt,
+        alloc,
+        &asked,
+        sound(100_000),
+        done(compiled.out.written()),
+    )
+}
+
+#[test]
+fn a_script_is_sent_live_for_any_service(rt: HostRuntime) -> Result<(), Fail> {
+    let alloc = rt.alloc();
+    for profile in ["sd", "hd", "large"] {
+        for Service { pid, page } in SERVICES {
+            let words = format!(in alloc; "{profile} {pid} {page} script.csv none")?;
+            is_sent_live(&rt, alloc, words.as_str(), SCRIPT, "")?;
+        }
+    }
+    is_sent_live(
+        &rt,
+        alloc,
+        "sd 256 1 script.csv font.bdf",
+        SCRIPT_OF_TEXT,
+        FONT,
+    )
+}
+
+/// A tool that sends the first run again ends well, with so many bytes.
+fn ends_with<R: Threads + Sync + Abort>(
+    rt: &R,
+    alloc: Global,
+    asked: &Asked<'_>,
+    size: usize,
+) -> Result<(), Fail> {
+    let ended = run(rt, alloc, asked, sound(100_000))?;
+    same(rt, ended.notes.written(), b"done\n".as_slice());
+    same(rt, ended.out.written().len(), size);
+    Ok(())
+}
+
+/// A stream joined with itself has its packets twice.
+#[test]
+fn streams_are_joined_for_any_service(rt: HostRuntime) -> Result<(), Fail> {
+    let alloc = rt.alloc();
+    for (profile, service) in ["sd", "hd", "large"].into_iter().zip(SERVICES) {
+        let Service { pid, page } = service;
+        let line = format!(in alloc; "splice {profile} {pid} {page} 0 270000 a.ts a.ts out.ts")?;
+        let stream = stream_of(alloc, service)?;
+        let asked = Asked {
+            line: line.as_str(),
+            first: stream.as_slice(),
+            second: stream.as_slice(),
+        };
+        ends_with(&rt, alloc, &asked, 752)?;
+    }
+    Ok(())
+}
+
+/// Both scripts' sets are in the same two packets, whatever the service.
+#[test]
+fn scripts_are_paired_for_any_service(rt: HostRuntime) -> Result<(), Fail> {
+    let alloc = rt.alloc();
+    for (profile, service) in ["sd", "hd", "large"].into_iter().zip(SERVICES) {
+        let Service { pid, page } = service;
+        let line = format!(in alloc;
+            "pair {profile} {pid} {page} {} {SHARED_PAGE} a.csv b.csv out.ts",
+            page.wrapping_add(2)
+        )?;
+        let asked = Asked {
+            line: line.as_str(),
+            first: SCRIPT.as_bytes(),
+            second: SCRIPT.as_bytes(),
+        };
+        ends_with(&rt, alloc, &asked, 376)?;
     }
     Ok(())
 }

@@ -29,3 +29,7 @@ mod told_levels;
 // The same by the clock of a programme.
 #[cfg(test)]
 mod told_by_clock;
+
+// All of these for services at the edges of what words may say.
+#[cfg(test)]
+mod other_services;
