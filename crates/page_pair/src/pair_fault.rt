@@ -10,9 +10,9 @@ use sub_base::FaultName;
 /// through. The faults within are never want of memory. Sets are counted from 0.
 #[derive(Clone, Copy, Debug, PartialEq, Eq)]
 pub enum PairFault {
-    /// The first script is none.
+    /// The first script is refused.
     FirstScript(ScriptFault),
-    /// The second script is none.
+    /// The second script is refused.
     SecondScript(ScriptFault),
     /// The records of this number, of the first three, differ: origin, display or refresh.
     Heads { row: u8 },
