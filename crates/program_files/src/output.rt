@@ -1,3 +1,4 @@
+ghost use Rattle.std.specs.Prelude.{◌≡◌};
 ghost use Rattle.std.specs.Io.{WritesAtMost};
 
 use crate::identity::{FileNumbers, has_numbers, is_input, numbers_in};
@@ -85,7 +86,9 @@ impl<'a> Output<'a> {
     }
 
     /// Whether something was written.
-    pub fn has_written(&self) -> bool {
+    pub fn has_written(&self) -> bool
+        ensures { result ≡ self.now.has_written }
+    {
         self.has_written
     }
 
