@@ -1,5 +1,5 @@
 -- The code of a command over files, by how its output and its line ended.
-use Rattle.std.proofs.Common.{◌≡◌, ◌⊎◌, inl, inr, ℕ, Bool, true, false, true≢false, List, Option, Some, None, refl, sym, ◌∙◌, subst, ap, arith}
+use Rattle.std.proofs.Common.{◌≡◌, ◌⊎◌, inl, inr, ℕ, Bool, true, false, true≢false, List, Option, Some, None, refl, sym, ◌∙◌, subst, ap, arith, ◌&&◌, not, if◌then◌else◌}
 use Rattle.program_files.specs.Keeping.{is_kept}
 use Rattle.program_files.specs.declared.keeping.OutputKind.{OutputKind}
 use Rattle.program_files.specs.declared.keeping.OutputKind.TheVariants as output
@@ -12,7 +12,7 @@ use Rattle.dvbsub_cmd.specs.Outcome.{HasCause, IsCausedBy, TellsStatus, untold}
 use Rattle.dvbsub_cmd.specs.StatusText.{code_of}
 use Rattle.dvbsub_cmd.specs.declared.status.Status.{Status}
 use Rattle.dvbsub_cmd.specs.declared.status.Status.TheVariants as status
-use Rattle.command_files.specs.Ends.{HasCode, IsEnding, IsKeptWith, IsToldWith, kind_of_words}
+use Rattle.command_files.specs.Ends.{HasCode, IsEnding, IsKeptWith, IsToldWith, kind_of_words, unkept}
 
 -- ---- what is told
 
@@ -75,17 +75,31 @@ notes_told kind has_written before now run answer code (inl whole) given =
 notes_told kind has_written before now run answer code (inr front) given =
     untold_stays kind has_written run code (subst (λ end. IsCodeOf kind has_written end code) front.2 given)
 
+-- one of two values is taken, and which
+chosen : {A : Type 0} (kept finished : Bool) (lost same end : A) → end ≡ (if kept && not finished then lost else same)
+    → (end ≡ same) ⊎ ((kept ≡ true) × (end ≡ lost))
+chosen true false lost same end eq = inr (refl, eq)
+chosen true true lost same end eq = inl eq
+chosen false finished lost same end eq = inl eq
+
 -- nor do the end of its output and the line of the program
-ending_told : (kind : OutputKind) (has_written : Bool) (run ending : Status) (code : ℕ)
-    → IsEnding kind has_written run ending → (code ≡ code_of ending) ⊎ (code ≡ code_of (untold ending))
-    → IsCodeOf kind has_written run code
-ending_told kind has_written run ending code (inl same) (inl told) = inl (told ∙ ap code_of same)
-ending_told kind has_written run ending code (inl same) (inr told) =
+by_end : (kind : OutputKind) (has_written : Bool) (run ending : Status) (code : ℕ)
+    → (ending ≡ run) ⊎ ((is_kept kind has_written (code_of run) ≡ true) × (ending ≡ unkept))
+    → (code ≡ code_of ending) ⊎ (code ≡ code_of (untold ending)) → IsCodeOf kind has_written run code
+by_end kind has_written run ending code (inl same) (inl told) = inl (told ∙ ap code_of same)
+by_end kind has_written run ending code (inl same) (inr told) =
     subst (IsCodeOf kind has_written run) (sym (told ∙ ap (λ end. code_of (untold end)) same))
     (untold_code kind has_written run)
-ending_told kind has_written run ending code (inr lost) (inl told) = inr (lost.0, told ∙ ap code_of lost.1)
-ending_told kind has_written run ending code (inr lost) (inr told) =
+by_end kind has_written run ending code (inr lost) (inl told) = inr (lost.0, told ∙ ap code_of lost.1)
+by_end kind has_written run ending code (inr lost) (inr told) =
     inr (lost.0, told ∙ ap (λ end. code_of (untold end)) lost.1)
+
+ending_told : (kind : OutputKind) (has_written is_finished : Bool) (run ending : Status) (code : ℕ)
+    → IsEnding kind has_written is_finished run ending → (code ≡ code_of ending) ⊎ (code ≡ code_of (untold ending))
+    → IsCodeOf kind has_written run code
+ending_told kind has_written is_finished run ending code end =
+    by_end kind has_written run ending code
+    (chosen (is_kept kind has_written (code_of run)) is_finished unkept run ending end)
 
 -- ---- the whole command
 
@@ -95,6 +109,7 @@ pub record HasEnded (words : List (List ℕ)) (code : ℕ) : Type 0 where
   pub kind : OutputKind
   pub kind_is : kind ≡ kind_of_words words has_stream
   pub has_written : Bool
+  pub is_finished : Bool
   pub before : Seen
   pub now : Seen
   pub notes_before : Received
@@ -102,7 +117,7 @@ pub record HasEnded (words : List (List ℕ)) (code : ℕ) : Type 0 where
   pub answer : Status
   pub ending : Status
   pub cause : HasCause words before now notes_before notes_now answer
-  pub kept : IsEnding kind has_written answer ending
+  pub kept : IsEnding kind has_written is_finished answer ending
   pub told : (code ≡ code_of ending) ⊎ (code ≡ code_of (untold ending))
 
 -- the code by the kind of the output, and so by the words
@@ -115,14 +130,13 @@ by_words words kind has_stream has_written run code is (inr lost) =
 
 -- its code is that of a status with which it may end, or 6
 pub has_code : (words : List (List ℕ)) (code : ℕ) → HasEnded words code → HasCode words code
-has_code words code end =
-    (
-      end.cause.0,
-      (end.before, end.now, end.cause.1),
-      by_words words end.kind end.has_stream end.has_written end.cause.0 code end.kind_is
-          (notes_told end.kind end.has_written end.notes_before end.notes_now end.cause.0 end.answer code end.cause.2
-          (ending_told end.kind end.has_written end.answer end.ending code end.kept end.told)),
-    )
+has_code words code end = (
+  end.cause.0,
+  (end.before, end.now, end.cause.1),
+  by_words words end.kind end.has_stream end.has_written end.cause.0 code end.kind_is
+      (notes_told end.kind end.has_written end.notes_before end.notes_now end.cause.0 end.answer code end.cause.2
+      (ending_told end.kind end.has_written end.is_finished end.answer end.ending code end.kept end.told)),
+)
 
 -- ---- wrong words
 

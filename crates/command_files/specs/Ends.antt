@@ -1,5 +1,5 @@
 -- What becomes of a command's output as the command ends, what is told of its status, and the program's code.
-use Rattle.std.specs.Prelude.{◌≡◌, ◌⊎◌, Bool, true, ◌&&◌, ◌||◌, if◌then◌else◌, List, [], ◌∷◌, ◌++◌, ℕ, bytes_eq, codes}
+use Rattle.std.specs.Prelude.{◌≡◌, ◌⊎◌, Bool, true, not, ◌&&◌, ◌||◌, if◌then◌else◌, List, [], ◌∷◌, ◌++◌, ℕ, bytes_eq, codes}
 use Rattle.command_line.specs.declared.table.TheConstants.{COMMANDS}
 use Rattle.program_files.specs.Keeping.{is_kept}
 use Rattle.program_files.specs.declared.keeping.OutputKind.{OutputKind}
@@ -27,10 +27,11 @@ kind_of_words (word ∷ words) has_stream = if has_stream && is_told_of_stream w
 abbrev pub unkept : Status
 unkept = status.WriteFault which.Out
 
--- a command ends with its status; only where its output is one that is kept with that status may it end with `write out`
-abbrev pub IsEnding : OutputKind → Bool → Status → Status → Type 0
-IsEnding kind has_written run ending =
-    (ending ≡ run) ⊎ ((is_kept kind has_written (code_of run) ≡ true) × (ending ≡ unkept))
+-- a command ends with its status; where its output was to be kept with that status and could not be finished, with
+-- `write out`
+abbrev pub IsEnding : OutputKind → Bool → Bool → Status → Status → Type 0
+IsEnding kind has_written is_finished run ending =
+    ending ≡ (if is_kept kind has_written (code_of run) && not is_finished then unkept else run)
 
 -- ---- what is told
 
@@ -38,14 +39,15 @@ IsEnding kind has_written run ending =
 abbrev pub command_lines : List ℕ
 command_lines = COMMANDS.now ++ 10 ∷ []
 
--- a sink has received the line of the status, or a front of it where it failed, and the code is that of the status as it
--- stands then
+-- a sink has received the line of the status, or a front of it where it failed; the code is that of the status, which
+-- is another one where `done` could not be told
 abbrev pub IsToldWith : Received → Received → Status → ℕ → Type 0
 IsToldWith before now run code = (answer : Status) × TellsStatus before now run answer × (code ≡ code_of answer)
 
 -- ---- the code
 
--- the command of these words may end so: the status has its cause in what the command saw of its files before and then
+-- the command of these words may end so: the status has its cause, by something that may be seen of its files before
+-- and now
 abbrev pub MayEnd : List (List ℕ) → Status → Type 0
 MayEnd words run = (before : Seen) × (now : Seen) × IsCaused words before now run
 

@@ -30,7 +30,6 @@ pub fn run<T: Threads + Sync>(rt: &HostRuntime, threads: &T) -> u8 {
 ///
 /// The line of the status waits until the output's file is there, so `done` is told only where it
 /// is.
-#[tactic(auto, using(crate::proofs::EndLaws::wrong_words, crate::proofs::EndLaws::two_alone))]
 pub fn carry_out<T: Threads + Sync>(rt: &HostRuntime, threads: &T, words: &Words) -> u8
     ensures code { HasCode words.now result }
     ensures usage { command_of words.now ≡ None → result ≡ 2 }

@@ -7,7 +7,7 @@ use sub_base::{ToolStatus, Which};
 /// The status of a tool once its output has taken the place of what was there, or has been given
 /// up.
 pub fn tool_ended<F: Copy>(output: &mut Output<'_>, status: ToolStatus<F>) -> ToolStatus<F>
-    ensures { IsToolEnding output.old.has_written status result }
+    ensures { IsToolEnding output.old.has_written output.new.is_finished status result }
 {
     if !is_kept(OutputKind::Tool, status.code(), output.has_written()) {
         output.abandon();

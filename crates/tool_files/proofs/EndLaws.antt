@@ -1,6 +1,6 @@
 -- The code of a tool over files, by how its output and its line ended.
-use Rattle.std.proofs.Common.{◌≡◌, ◌⊎◌, inl, inr, ℕ, Bool, true, false, true≢false, List, Option, Some, None, is_some, refl, sym, ◌∙◌, subst, ap, arith}
-use Rattle.program_files.specs.Ending.{IsToolEnding}
+use Rattle.std.proofs.Common.{◌≡◌, ◌⊎◌, inl, inr, ℕ, Bool, true, false, true≢false, List, Option, Some, None, is_some, refl, sym, ◌∙◌, subst, ap, arith, ◌&&◌, not, if◌then◌else◌}
+use Rattle.program_files.specs.Ending.{IsToolEnding, unkept}
 use Rattle.program_files.specs.Keeping.{is_kept}
 use Rattle.program_files.specs.declared.keeping.OutputKind.TheVariants as output
 use Rattle.sub_base.specs.Endpoints.{Received}
@@ -27,7 +27,7 @@ use Rattle.stream_report.specs.PicturesOutcome.{pictures_causes}
 use Rattle.stream_report.specs.PicturesWords.{pictures_words}
 use Rattle.stream_report.specs.PidsOutcome.{pids_causes}
 use Rattle.stream_report.specs.PidsWords.{pids_words}
-use Rattle.tool_files.specs.Ends.{HasCode, IsCodeOf, IsToldWith, MayEnd, MayEndAs, is_command, is_command_of, is_named_command, named_tool}
+use Rattle.tool_files.specs.Ends.{HasToolCode, IsCodeOf, IsToolToldWith, MayToolEnd, MayEndAs, is_command, is_command_of, is_named_command, named_tool}
 use Rattle.tool_files.specs.declared.tool.Tool.{Tool}
 use Rattle.tool_files.specs.declared.tool.Tool.TheVariants as named
 
@@ -35,7 +35,7 @@ use Rattle.tool_files.specs.declared.tool.Tool.TheVariants as named
 
 -- the code that is told is that of the status, or of what it becomes where its line could not be written
 pub told_code : {F : Type 0} (name : F → List ℕ) (before now : Received) (run : ToolStatus F) (code : ℕ)
-    → IsToldWith name before now run code → (code ≡ tool_code run) ⊎ (code ≡ tool_code (untold_tool run))
+    → IsToolToldWith name before now run code → (code ≡ tool_code run) ⊎ (code ≡ tool_code (untold_tool run))
 told_code name before now run code (answer, inl whole, eq) = inl (eq ∙ ap tool_code whole.1)
 told_code name before now run code (answer, inr front, eq) = inr (eq ∙ ap tool_code front.2)
 
@@ -77,17 +77,31 @@ notes_told name has_written before now run answer code (inl whole) given =
 notes_told name has_written before now run answer code (inr front) given =
     untold_stays has_written run code (subst (λ end. IsCodeOf has_written end code) front.2 given)
 
+-- one of two values is taken, and which
+chosen : {A : Type 0} (kept finished : Bool) (lost same end : A) → end ≡ (if kept && not finished then lost else same)
+    → (end ≡ same) ⊎ ((kept ≡ true) × (end ≡ lost))
+chosen true false lost same end eq = inr (refl, eq)
+chosen true true lost same end eq = inl eq
+chosen false finished lost same end eq = inl eq
+
 -- nor do the end of its output and the line of the program
-pub ending_told : {F : Type 0} (has_written : Bool) (run ending : ToolStatus F) (code : ℕ)
-    → IsToolEnding has_written run ending → (code ≡ tool_code ending) ⊎ (code ≡ tool_code (untold_tool ending))
-    → IsCodeOf has_written run code
-ending_told has_written run ending code (inl same) (inl told) = inl (told ∙ ap tool_code same)
-ending_told has_written run ending code (inl same) (inr told) =
+by_end : {F : Type 0} (has_written : Bool) (run ending : ToolStatus F) (code : ℕ)
+    → (ending ≡ run) ⊎ ((is_kept output.Tool has_written (tool_code run) ≡ true) × (ending ≡ unkept))
+    → (code ≡ tool_code ending) ⊎ (code ≡ tool_code (untold_tool ending)) → IsCodeOf has_written run code
+by_end has_written run ending code (inl same) (inl told) = inl (told ∙ ap tool_code same)
+by_end has_written run ending code (inl same) (inr told) =
     subst (IsCodeOf has_written run) (sym (told ∙ ap (λ end. tool_code (untold_tool end)) same))
     (untold_code has_written run)
-ending_told has_written run ending code (inr lost) (inl told) = inr (lost.0, told ∙ ap tool_code lost.1)
-ending_told has_written run ending code (inr lost) (inr told) =
+by_end has_written run ending code (inr lost) (inl told) = inr (lost.0, told ∙ ap tool_code lost.1)
+by_end has_written run ending code (inr lost) (inr told) =
     inr (lost.0, told ∙ ap (λ end. tool_code (untold_tool end)) lost.1)
+
+pub ending_told : {F : Type 0} (has_written is_finished : Bool) (run ending : ToolStatus F) (code : ℕ)
+    → IsToolEnding has_written is_finished run ending
+    → (code ≡ tool_code ending) ⊎ (code ≡ tool_code (untold_tool ending)) → IsCodeOf has_written run code
+ending_told has_written is_finished run ending code end =
+    by_end has_written run ending code
+    (chosen (is_kept output.Tool has_written (tool_code run)) is_finished unkept run ending end)
 
 -- ---- a whole tool
 
@@ -105,16 +119,15 @@ pub record HasEnded {C F : Type 0} (name : F → List ℕ) (causes : C → Seen 
 
 -- its code is that of a status that has its cause, or 6
 pub may_end : {C F : Type 0} (name : F → List ℕ) (causes : C → Seen → Seen → Causes F) (command : Option C) (code : ℕ)
-    → HasEnded name causes command code → MayEnd causes command code
-may_end name causes command code end =
-    (
-      end.cause.0,
-      end.before,
-      end.now,
-      end.has_written,
-      end.cause.1,
-      notes_told name end.has_written end.notes_before end.notes_now end.cause.0 end.answer code end.cause.2 end.told,
-    )
+    → HasEnded name causes command code → MayToolEnd causes command code
+may_end name causes command code end = (
+  end.cause.0,
+  end.before,
+  end.now,
+  end.has_written,
+  end.cause.1,
+  notes_told name end.has_written end.notes_before end.notes_now end.cause.0 end.answer code end.cause.2 end.told,
+)
 
 -- ---- wrong words
 
@@ -135,8 +148,8 @@ not_some value none = absurd (true≢false none)
 
 -- a tool whose words are no command of it ends with 2
 unasked : {C F : Type 0} (causes : C → Seen → Seen → Causes F) (command : Option C) (code : ℕ)
-    → MayEnd causes command code → is_some command ≡ false → code ≡ 2
-unasked causes None code (run, before, now, has_written, cause, same) none = usage_code has_written run code cause.0 same
+    → MayToolEnd causes command code → is_some command ≡ false → code ≡ 2
+unasked causes None code (run, before, now, wrote, cause, same) none = usage_code wrote run code cause.0 same
 unasked causes (Some command) code end none = absurd (not_some command none)
 
 unasked_live : (command : Option LiveCommand) (before now : Seen) (notes_before notes_now : Received)
@@ -159,13 +172,13 @@ wrong_as named.Pictures words code end none = unasked pictures_causes (pictures_
 wrong_as named.Faults words code end none = unasked faults_causes (faults_words words) code end none
 wrong_as named.Levels words code end none = unasked levels_causes (levels_words words) code end none
 
-wrong_named : (asked : Option Tool) (words : List (List ℕ)) (code : ℕ) → HasCode asked words code
+wrong_named : (asked : Option Tool) (words : List (List ℕ)) (code : ℕ) → HasToolCode asked words code
     → is_named_command asked words ≡ false → code ≡ 2
 wrong_named None words code end none = end
 wrong_named (Some one) words code end none = wrong_as one words code end none
 
 -- words that are no command of the tool that they name end with 2
-pub wrong_words : (words : List (List ℕ)) (code : ℕ) → HasCode (named_tool words) words code
+pub wrong_words : (words : List (List ℕ)) (code : ℕ) → HasToolCode (named_tool words) words code
     → is_command words ≡ false → code ≡ 2
 wrong_words words code end none = wrong_named (named_tool words) words code end none
 
@@ -188,7 +201,7 @@ command_code causes before now tool.Memory cause same = omega (arith, same)
 command_code causes before now (tool.InputTooLong which) cause same = omega (arith, same)
 
 two_unasked : {C F : Type 0} (causes : C → Seen → Seen → Causes F) (command : Option C) (code : ℕ)
-    → MayEnd causes command code → code ≡ 2 → is_some command ≡ false
+    → MayToolEnd causes command code → code ≡ 2 → is_some command ≡ false
 two_unasked causes None code end two = refl
 two_unasked causes (Some command) code (run, before, now, has_written, cause, same) two =
     absurd (command_code (causes command before now) before now run cause (two_of has_written run code same two))
@@ -242,12 +255,12 @@ two_as named.Pictures words code end two = two_unasked pictures_causes (pictures
 two_as named.Faults words code end two = two_unasked faults_causes (faults_words words) code end two
 two_as named.Levels words code end two = two_unasked levels_causes (levels_words words) code end two
 
-two_named : (asked : Option Tool) (words : List (List ℕ)) (code : ℕ) → HasCode asked words code → code ≡ 2
+two_named : (asked : Option Tool) (words : List (List ℕ)) (code : ℕ) → HasToolCode asked words code → code ≡ 2
     → is_named_command asked words ≡ false
 two_named None words code end two = refl
 two_named (Some one) words code end two = two_as one words code end two
 
 -- words that are a command of the tool that they name do not end with 2
-pub two_alone : (words : List (List ℕ)) (code : ℕ) → HasCode (named_tool words) words code → code ≡ 2
+pub two_alone : (words : List (List ℕ)) (code : ℕ) → HasToolCode (named_tool words) words code → code ≡ 2
     → is_command words ≡ false
 two_alone words code end two = two_named (named_tool words) words code end two

@@ -34,10 +34,10 @@ use Rattle.tool_files.specs.declared.tool.Tool.TheVariants as tool
 abbrev pub tool_lines : List ℕ
 tool_lines = TOOLS.now ++ 10 ∷ []
 
--- a sink has received the line of the status, or a front of it where it failed, and the code is that of the status as it
--- stands then
-abbrev pub IsToldWith : {F : Type 0} → (F → List ℕ) → Received → Received → ToolStatus F → ℕ → Type 0
-IsToldWith {F} name before now run code =
+-- a sink has received the line of the status, or a front of it where it failed; the code is that of the status, which
+-- is another one where `done` could not be told
+abbrev pub IsToolToldWith : {F : Type 0} → (F → List ℕ) → Received → Received → ToolStatus F → ℕ → Type 0
+IsToolToldWith {F} name before now run code =
     (answer : ToolStatus F) × TellsTool name before now run answer × (code ≡ tool_code answer)
 
 -- ---- the code
@@ -48,17 +48,18 @@ abbrev pub IsCodeOf : {F : Type 0} → Bool → ToolStatus F → ℕ → Type 0
 IsCodeOf has_written run code =
     (code ≡ tool_code run) ⊎ ((is_kept output.Tool has_written (tool_code run) ≡ true) × (code ≡ 6))
 
--- a tool that was asked for so may end with that code: its status has its cause in what the tool saw of its files
--- before and then
-abbrev pub MayEnd : {C F : Type 0} → (C → Seen → Seen → Causes F) → Option C → ℕ → Type 0
-MayEnd {C} {F} causes command code =
+-- a tool that was asked for so may end with that code: it is that of a status that has its cause, by something that may
+-- be seen of its files before and now
+abbrev pub MayToolEnd : {C F : Type 0} → (C → Seen → Seen → Causes F) → Option C → ℕ → Type 0
+MayToolEnd {C} {F} causes command code =
     (run : ToolStatus F) × (before : Seen) × (now : Seen) × (has_written : Bool)
     × IsToolRun causes command before now run × IsCodeOf has_written run code
 
--- the same of `live`, which tells its lines and its status by itself
+-- the same of `live`, which tells its lines and its status by itself, and whose output is written as it comes
 abbrev pub MayEndLive : List (List ℕ) → ℕ → Type 0
 MayEndLive words code =
-    (answer : ToolStatus LiveFault) × (before : Seen) × (now : Seen) × (notes_before : Received) × (notes_now : Received)
+    (answer : ToolStatus LiveFault) × (before : Seen) × (now : Seen)
+    × (notes_before : Received) × (notes_now : Received)
     × HasLiveCause (live_words words) before now notes_before notes_now answer × (code ≡ tool_code answer)
 
 -- the tool of that name
@@ -94,28 +95,29 @@ is_command_of tool.Pictures words = is_some (pictures_words words)
 is_command_of tool.Faults words = is_some (faults_words words)
 is_command_of tool.Levels words = is_some (levels_words words)
 
--- the words are a command of the tool that they name
+-- the words are a command of the tool that was named, if one was
 abbrev pub is_named_command : Option Tool → List (List ℕ) → Bool
 is_named_command None words = false
 is_named_command (Some named) words = is_command_of named words
 
+-- the words are a command of the tool that the first of them names
 abbrev pub is_command : List (List ℕ) → Bool
 is_command words = is_named_command (named_tool words) words
 
 -- that tool may end with that code, where these are the words
 abbrev pub MayEndAs : Tool → List (List ℕ) → ℕ → Type 0
-MayEndAs tool.Mux words code = MayEnd mux_causes (mux_words words) code
-MayEndAs tool.Take words code = MayEnd take_causes (take_words words) code
-MayEndAs tool.Pair words code = MayEnd (tool_causes words) (pair_command words) code
-MayEndAs tool.PairDump words code = MayEnd (tool_causes words) (pair_command words) code
+MayEndAs tool.Mux words code = MayToolEnd mux_causes (mux_words words) code
+MayEndAs tool.Take words code = MayToolEnd take_causes (take_words words) code
+MayEndAs tool.Pair words code = MayToolEnd (tool_causes words) (pair_command words) code
+MayEndAs tool.PairDump words code = MayToolEnd (tool_causes words) (pair_command words) code
 MayEndAs tool.Live words code = MayEndLive words code
-MayEndAs tool.Splice words code = MayEnd splice_causes (splice_words words) code
-MayEndAs tool.Pids words code = MayEnd pids_causes (pids_words words) code
-MayEndAs tool.Pictures words code = MayEnd pictures_causes (pictures_words words) code
-MayEndAs tool.Faults words code = MayEnd faults_causes (faults_words words) code
-MayEndAs tool.Levels words code = MayEnd levels_causes (levels_words words) code
+MayEndAs tool.Splice words code = MayToolEnd splice_causes (splice_words words) code
+MayEndAs tool.Pids words code = MayToolEnd pids_causes (pids_words words) code
+MayEndAs tool.Pictures words code = MayToolEnd pictures_causes (pictures_words words) code
+MayEndAs tool.Faults words code = MayToolEnd faults_causes (faults_words words) code
+MayEndAs tool.Levels words code = MayToolEnd levels_causes (levels_words words) code
 
 -- the code of a tool over files is one with which the tool that the words name may end; words that name none end with 2
-abbrev pub HasCode : Option Tool → List (List ℕ) → ℕ → Type 0
-HasCode None words code = code ≡ 2
-HasCode (Some named) words code = MayEndAs named words code
+abbrev pub HasToolCode : Option Tool → List (List ℕ) → ℕ → Type 0
+HasToolCode None words code = code ≡ 2
+HasToolCode (Some named) words code = MayEndAs named words code

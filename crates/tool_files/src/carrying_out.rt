@@ -1,5 +1,5 @@
 ghost use Rattle.std.specs.Prelude.{◌≡◌, false};
-ghost use Rattle.tool_files.specs.Ends.{HasCode, MayEndAs, is_command, named_tool as named_tool_of};
+ghost use Rattle.tool_files.specs.Ends.{HasToolCode, MayEndAs, is_command, named_tool as named_tool_of};
 
 use crate::live::live;
 use crate::multiplexes::{mux, take};
@@ -29,7 +29,7 @@ pub fn run<T: Threads + Sync>(rt: &HostRuntime, threads: &T) -> u8 {
 /// Carries out the tool that the first word names, and answers the code of its status.
 #[tactic(auto, using(crate::proofs::EndLaws::wrong_words, crate::proofs::EndLaws::two_alone))]
 pub fn carry_out<T: Threads + Sync>(rt: &HostRuntime, threads: &T, words: &Words) -> u8
-    ensures code { HasCode (named_tool_of words.now) words.now result }
+    ensures code { HasToolCode (named_tool_of words.now) words.now result }
     ensures usage { is_command words.now ≡ false → result ≡ 2 }
     ensures usage_alone { result ≡ 2 → is_command words.now ≡ false }
 {
@@ -40,12 +40,7 @@ pub fn carry_out<T: Threads + Sync>(rt: &HostRuntime, threads: &T, words: &Words
 }
 
 /// Carries out that tool, and answers the code of its status.
-fn carry_out_tool<T: Threads + Sync>(
-    rt: &HostRuntime,
-    threads: &T,
-    words: &Words,
-    tool: Tool,
-) -> u8
+fn carry_out_tool<T: Threads + Sync>(rt: &HostRuntime, threads: &T, words: &Words, tool: Tool) -> u8
     ensures { MayEndAs tool words.now result }
 {
     match tool {

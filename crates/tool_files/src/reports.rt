@@ -8,7 +8,7 @@ ghost use Rattle.stream_report.specs.PicturesOutcome.{pictures_causes};
 ghost use Rattle.stream_report.specs.PicturesWords.{pictures_words};
 ghost use Rattle.stream_report.specs.PidsOutcome.{pids_causes};
 ghost use Rattle.stream_report.specs.PidsWords.{pids_words};
-ghost use Rattle.tool_files.specs.Ends.{MayEnd};
+ghost use Rattle.tool_files.specs.Ends.{MayToolEnd};
 
 use crate::files::{ToolFiles, end};
 use std::io;
@@ -25,7 +25,7 @@ pub(crate) fn pictures<'a, T: Threads + Sync>(
     threads: &T,
     words: &'a Words,
 ) -> u8
-    ensures { MayEnd pictures_causes (pictures_words words.now) result }
+    ensures { MayToolEnd pictures_causes (pictures_words words.now) result }
 {
     let ToolFiles {
         mut first,
@@ -46,7 +46,7 @@ pub(crate) fn pictures<'a, T: Threads + Sync>(
 
 /// Tells why sets of a stream are not shown.
 pub(crate) fn faults<'a>(rt: &'a HostRuntime, words: &'a Words) -> u8
-    ensures { MayEnd faults_causes (faults_words words.now) result }
+    ensures { MayToolEnd faults_causes (faults_words words.now) result }
 {
     let ToolFiles {
         mut first,
@@ -65,7 +65,7 @@ pub(crate) fn faults<'a>(rt: &'a HostRuntime, words: &'a Words) -> u8
 
 /// Tells the levels of a receiver's coded data buffer, by the stream's own clock.
 pub(crate) fn levels<'a>(rt: &'a HostRuntime, words: &'a Words) -> u8
-    ensures { MayEnd levels_causes (levels_words words.now) result }
+    ensures { MayToolEnd levels_causes (levels_words words.now) result }
 {
     let ToolFiles {
         mut first,
@@ -84,7 +84,7 @@ pub(crate) fn levels<'a>(rt: &'a HostRuntime, words: &'a Words) -> u8
 
 /// Tells the PIDs of a stream that have subtitles, with their pages and services.
 pub(crate) fn pids<'a>(rt: &'a HostRuntime, words: &'a Words) -> u8
-    ensures { MayEnd pids_causes (pids_words words.now) result }
+    ensures { MayToolEnd pids_causes (pids_words words.now) result }
 {
     let ToolFiles {
         mut first,

@@ -1,7 +1,7 @@
 ghost use Rattle.page_pair.specs.PairTop.{pair_command, tool_causes};
 ghost use Rattle.splice.specs.SpliceOutcome.{splice_causes};
 ghost use Rattle.splice.specs.SpliceWords.{splice_words};
-ghost use Rattle.tool_files.specs.Ends.{MayEnd};
+ghost use Rattle.tool_files.specs.Ends.{MayToolEnd};
 
 use crate::files::{ToolFiles, end};
 use command_words::InputPlaces;
@@ -19,7 +19,7 @@ pub(crate) fn pair<'a, T: Threads + Sync>(
     words: &'a Words,
     places: InputPlaces,
 ) -> u8
-    ensures { MayEnd (tool_causes words.now) (pair_command words.now) result }
+    ensures { MayToolEnd (tool_causes words.now) (pair_command words.now) result }
 {
     let ToolFiles {
         mut first,
@@ -41,7 +41,7 @@ pub(crate) fn pair<'a, T: Threads + Sync>(
 
 /// Joins two streams at a cut.
 pub(crate) fn join<'a>(rt: &'a HostRuntime, words: &'a Words) -> u8
-    ensures { MayEnd splice_causes (splice_words words.now) result }
+    ensures { MayToolEnd splice_causes (splice_words words.now) result }
 {
     let ToolFiles {
         mut first,
