@@ -27,7 +27,7 @@ use Rattle.stream_report.specs.PicturesOutcome.{pictures_causes}
 use Rattle.stream_report.specs.PicturesWords.{pictures_words}
 use Rattle.stream_report.specs.PidsOutcome.{pids_causes}
 use Rattle.stream_report.specs.PidsWords.{pids_words}
-use Rattle.tool_files.specs.Ends.{HasToolCode, IsCodeOf, IsToolToldWith, MayToolEnd, MayEndAs, is_command, is_command_of, is_named_command, named_tool}
+use Rattle.tool_files.specs.Ends.{HasToolCode, IsCodeOf, IsToolTold, MayToolEnd, MayEndAs, is_command, is_command_of, is_named_command, named_tool}
 use Rattle.tool_files.specs.declared.tool.Tool.{Tool}
 use Rattle.tool_files.specs.declared.tool.Tool.TheVariants as named
 
@@ -35,7 +35,7 @@ use Rattle.tool_files.specs.declared.tool.Tool.TheVariants as named
 
 -- the code that is told is that of the status, or of what it becomes where its line could not be written
 pub told_code : {F : Type 0} (name : F → List ℕ) (before now : Received) (run : ToolStatus F) (code : ℕ)
-    → IsToolToldWith name before now run code → (code ≡ tool_code run) ⊎ (code ≡ tool_code (untold_tool run))
+    → IsToolTold name before now run code → (code ≡ tool_code run) ⊎ (code ≡ tool_code (untold_tool run))
 told_code name before now run code (answer, inl whole, eq) = inl (eq ∙ ap tool_code whole.1)
 told_code name before now run code (answer, inr front, eq) = inr (eq ∙ ap tool_code front.2)
 

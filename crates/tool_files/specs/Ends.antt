@@ -36,8 +36,8 @@ tool_lines = TOOLS.now ++ 10 ∷ []
 
 -- a sink has received the line of the status, or a front of it where it failed; the code is that of the status, which
 -- is another one where `done` could not be told
-abbrev pub IsToolToldWith : {F : Type 0} → (F → List ℕ) → Received → Received → ToolStatus F → ℕ → Type 0
-IsToolToldWith {F} name before now run code =
+abbrev pub IsToolTold : {F : Type 0} → (F → List ℕ) → Received → Received → ToolStatus F → ℕ → Type 0
+IsToolTold {F} name before now run code =
     (answer : ToolStatus F) × TellsTool name before now run answer × (code ≡ tool_code answer)
 
 -- ---- the code
