@@ -1,5 +1,6 @@
-ghost use Rattle.std.specs.Prelude.{◌≡◌};
-ghost use Rattle.command_files.specs.Ends.{is_told_of_stream, kind_of_words};
+ghost use Rattle.std.specs.Prelude.{◌≡◌, None};
+ghost use Rattle.dvbsub_words.specs.Command.{command_of};
+ghost use Rattle.command_files.specs.Ends.{is_told_of_stream, kind_of_words, HasCode};
 
 use crate::ending::ended;
 use crate::reasons::explain;
@@ -29,7 +30,11 @@ pub fn run<T: Threads + Sync>(rt: &HostRuntime, threads: &T) -> u8 {
 ///
 /// The line of the status waits until the output's file is there, so `done` is told only where it
 /// is.
-pub fn carry_out<T: Threads + Sync>(rt: &HostRuntime, threads: &T, words: &Words) -> u8 {
+pub fn carry_out<T: Threads + Sync>(rt: &HostRuntime, threads: &T, words: &Words) -> u8
+    ensures code { HasCode words.now result }
+    ensures usage { command_of words.now ≡ None → result ≡ 2 }
+    ensures usage_alone { result ≡ 2 → command_of words.now ≡ None }
+{
     let places = inputs(words);
     let first_name = word_at(words, places.first);
     let second_name = word_at(words, places.second);

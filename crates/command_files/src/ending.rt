@@ -1,12 +1,11 @@
-ghost use Rattle.std.specs.Prelude.{◌≡◌, ◌⊎◌};
-ghost use Rattle.command_files.specs.Ends.{unkept};
+ghost use Rattle.command_files.specs.Ends.{IsEnding};
 
 use dvbsub_cmd::{Status, Which};
 use program_files::{Output, OutputKind, is_kept};
 
 /// The status once the output has taken the place of what was there, or has been given up.
 pub(crate) fn ended(output: &mut Output<'_>, kind: OutputKind, status: Status) -> Status
-    ensures { (result ≡ status) ⊎ (result ≡ unkept) }
+    ensures { IsEnding kind output.old.has_written output.new.is_finished status result }
 {
     if !is_kept(kind, status.code(), output.has_written()) {
         output.abandon();

@@ -1,5 +1,4 @@
-ghost use Rattle.std.specs.Prelude.{◌≡◌, ◌⊎◌};
-ghost use Rattle.program_files.specs.Ending.{unkept};
+ghost use Rattle.program_files.specs.Ending.{IsToolEnding};
 
 use crate::keeping::{OutputKind, is_kept};
 use crate::output::Output;
@@ -8,7 +7,7 @@ use sub_base::{ToolStatus, Which};
 /// The status of a tool once its output has taken the place of what was there, or has been given
 /// up.
 pub fn tool_ended<F: Copy>(output: &mut Output<'_>, status: ToolStatus<F>) -> ToolStatus<F>
-    ensures { (result ≡ status) ⊎ (result ≡ unkept) }
+    ensures { IsToolEnding output.old.has_written output.new.is_finished status result }
 {
     if !is_kept(OutputKind::Tool, status.code(), output.has_written()) {
         output.abandon();

@@ -1,3 +1,4 @@
+ghost use Rattle.std.specs.Prelude.{◌≡◌, is_ok};
 ghost use Rattle.std.specs.Io.{WritesAtMost};
 
 use crate::identity::{FileNumbers, has_numbers, is_input, numbers_in};
@@ -17,6 +18,8 @@ pub struct Output<'a> {
     place: Place<'a>,
     opened: Option<Opened>,
     has_written: bool,
+    // Whether what was written took its place when the output was finished. Statuses depend on it.
+    is_finished: bool,
 }
 
 /// Where an output goes.
@@ -71,6 +74,7 @@ impl<'a> Output<'a> {
             place,
             opened: None,
             has_written: false,
+            is_finished: false,
         }
     }
 
@@ -85,13 +89,23 @@ impl<'a> Output<'a> {
     }
 
     /// Whether something was written.
-    pub fn has_written(&self) -> bool {
+    pub fn has_written(&self) -> bool
+        ensures { result ≡ self.now.has_written }
+    {
         self.has_written
     }
 
     /// The output is to be kept, even where nothing was written: it takes the place of what was
     /// there.
-    pub fn finish(&mut self) -> io::Result<()> {
+    pub fn finish(&mut self) -> io::Result<()>
+        ensures { self.new.is_finished ≡ is_ok result }
+    {
+        let finished = self.put_in_place();
+        self.is_finished = finished.is_ok();
+        finished
+    }
+
+    fn put_in_place(&mut self) -> io::Result<()> {
         self.make()?;
         match self.opened.take() {
             Some(Opened::Beside(new)) => new.put_in_place(self.rt),

@@ -1,12 +1,14 @@
-ghost use Rattle.std.specs.Prelude.{◌≡◌};
+ghost use Rattle.std.specs.Prelude.{◌≡◌, false};
+ghost use Rattle.tool_files.specs.Ends.{HasToolCode, MayEndAs, is_command, named_tool as named_tool_of};
 
 use crate::live::live;
 use crate::multiplexes::{mux, take};
 use crate::reports::{faults, levels, pictures, pids};
 use crate::streams::{join, pair};
 use crate::telling::tell_on;
+use crate::tool::{Tool, named_tool};
 use page_pair::{dump_inputs, pair_inputs};
-use program_files::{WordsFault, word_at, words_of};
+use program_files::{WordsFault, words_of};
 use service_mux::MuxFault;
 use std::thread::Threads;
 use sub_base::{ToolStatus, Words};
@@ -25,19 +27,33 @@ pub fn run<T: Threads + Sync>(rt: &HostRuntime, threads: &T) -> u8 {
 }
 
 /// Carries out the tool that the first word names, and answers the code of its status.
-pub fn carry_out<T: Threads + Sync>(rt: &HostRuntime, threads: &T, words: &Words) -> u8 {
-    match word_at(words, Some(0)) {
-        Some(word) if word == "mux" => mux(rt, words),
-        Some(word) if word == "live" => live(rt, words),
-        Some(word) if word == "splice" => join(rt, words),
-        Some(word) if word == "take" => take(rt, words),
-        Some(word) if word == "pair" => pair(rt, threads, words, pair_inputs(words)),
-        Some(word) if word == "pairdump" => pair(rt, threads, words, dump_inputs(words)),
-        Some(word) if word == "pids" => pids(rt, words),
-        Some(word) if word == "pictures" => pictures(rt, threads, words),
-        Some(word) if word == "faults" => faults(rt, words),
-        Some(word) if word == "levels" => levels(rt, words),
-        _ => tell_on(rt, without_a_tool(ToolStatus::Usage), false),
+#[tactic(auto, using(crate::proofs::EndLaws::wrong_words, crate::proofs::EndLaws::two_alone))]
+pub fn carry_out<T: Threads + Sync>(rt: &HostRuntime, threads: &T, words: &Words) -> u8
+    ensures code { HasToolCode (named_tool_of words.now) words.now result }
+    ensures usage { is_command words.now ≡ false → result ≡ 2 }
+    ensures usage_alone { result ≡ 2 → is_command words.now ≡ false }
+{
+    match named_tool(words) {
+        Some(tool) => carry_out_tool(rt, threads, words, tool),
+        None => tell_on(rt, without_a_tool(ToolStatus::Usage), false),
+    }
+}
+
+/// Carries out that tool, and answers the code of its status.
+fn carry_out_tool<T: Threads + Sync>(rt: &HostRuntime, threads: &T, words: &Words, tool: Tool) -> u8
+    ensures { MayEndAs tool words.now result }
+{
+    match tool {
+        Tool::Mux => mux(rt, words),
+        Tool::Take => take(rt, words),
+        Tool::Pair => pair(rt, threads, words, pair_inputs(words)),
+        Tool::PairDump => pair(rt, threads, words, dump_inputs(words)),
+        Tool::Live => live(rt, words),
+        Tool::Splice => join(rt, words),
+        Tool::Pids => pids(rt, words),
+        Tool::Pictures => pictures(rt, threads, words),
+        Tool::Faults => faults(rt, words),
+        Tool::Levels => levels(rt, words),
     }
 }
 

@@ -1,3 +1,5 @@
+ghost use Rattle.tool_files.specs.Ends.{IsCodeOf};
+
 use crate::telling::tell_on;
 use command_words::InputPlaces;
 use program_files::{Output, numbers_of, opened, output_name, tool_ended, word_at};
@@ -72,11 +74,14 @@ impl<'a> Opened<'a> {
 }
 
 /// Keeps or gives up the output by the status of the tool, and tells the status. Answers its code.
+#[tactic(auto, using(crate::proofs::EndLaws::ending_told))]
 pub(crate) fn end<F: FaultName + Copy>(
     rt: &HostRuntime,
     output: &mut Output<'_>,
     status: ToolStatus<F>,
-) -> u8 {
+) -> u8
+    ensures { IsCodeOf output.old.has_written status result }
+{
     let status = tool_ended(output, status);
     tell_on(rt, status, output.is_standard_output())
 }

@@ -4,6 +4,7 @@
 
 // The tool that the first word names.
 mod carrying_out;
+mod tool;
 
 // The tools over their files: multiplexes, streams of scripts or of streams, and what is told of
 // them.

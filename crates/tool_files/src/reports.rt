@@ -1,5 +1,15 @@
 //! What is told of one stream: its pictures, its faults, the levels of a buffer, its PIDs.
 
+ghost use Rattle.stream_report.specs.FaultsOutcome.{faults_causes};
+ghost use Rattle.stream_report.specs.FaultsWords.{faults_words};
+ghost use Rattle.stream_report.specs.LevelsOutcome.{levels_causes};
+ghost use Rattle.stream_report.specs.LevelsWords.{levels_words};
+ghost use Rattle.stream_report.specs.PicturesOutcome.{pictures_causes};
+ghost use Rattle.stream_report.specs.PicturesWords.{pictures_words};
+ghost use Rattle.stream_report.specs.PidsOutcome.{pids_causes};
+ghost use Rattle.stream_report.specs.PidsWords.{pids_words};
+ghost use Rattle.tool_files.specs.Ends.{MayToolEnd};
+
 use crate::files::{ToolFiles, end};
 use std::io;
 use std::thread::Threads;
@@ -14,7 +24,9 @@ pub(crate) fn pictures<'a, T: Threads + Sync>(
     rt: &'a HostRuntime,
     threads: &T,
     words: &'a Words,
-) -> u8 {
+) -> u8
+    ensures { MayToolEnd pictures_causes (pictures_words words.now) result }
+{
     let ToolFiles {
         mut first,
         second: _,
@@ -33,7 +45,9 @@ pub(crate) fn pictures<'a, T: Threads + Sync>(
 }
 
 /// Tells why sets of a stream are not shown.
-pub(crate) fn faults<'a>(rt: &'a HostRuntime, words: &'a Words) -> u8 {
+pub(crate) fn faults<'a>(rt: &'a HostRuntime, words: &'a Words) -> u8
+    ensures { MayToolEnd faults_causes (faults_words words.now) result }
+{
     let ToolFiles {
         mut first,
         second: _,
@@ -50,7 +64,9 @@ pub(crate) fn faults<'a>(rt: &'a HostRuntime, words: &'a Words) -> u8 {
 }
 
 /// Tells the levels of a receiver's coded data buffer, by the stream's own clock.
-pub(crate) fn levels<'a>(rt: &'a HostRuntime, words: &'a Words) -> u8 {
+pub(crate) fn levels<'a>(rt: &'a HostRuntime, words: &'a Words) -> u8
+    ensures { MayToolEnd levels_causes (levels_words words.now) result }
+{
     let ToolFiles {
         mut first,
         second: _,
@@ -67,7 +83,9 @@ pub(crate) fn levels<'a>(rt: &'a HostRuntime, words: &'a Words) -> u8 {
 }
 
 /// Tells the PIDs of a stream that have subtitles, with their pages and services.
-pub(crate) fn pids<'a>(rt: &'a HostRuntime, words: &'a Words) -> u8 {
+pub(crate) fn pids<'a>(rt: &'a HostRuntime, words: &'a Words) -> u8
+    ensures { MayToolEnd pids_causes (pids_words words.now) result }
+{
     let ToolFiles {
         mut first,
         second: _,

@@ -1,3 +1,8 @@
+ghost use Rattle.page_pair.specs.PairTop.{pair_command, tool_causes};
+ghost use Rattle.splice.specs.SpliceOutcome.{splice_causes};
+ghost use Rattle.splice.specs.SpliceWords.{splice_words};
+ghost use Rattle.tool_files.specs.Ends.{MayToolEnd};
+
 use crate::files::{ToolFiles, end};
 use command_words::InputPlaces;
 use page_pair::pair_top;
@@ -13,7 +18,9 @@ pub(crate) fn pair<'a, T: Threads + Sync>(
     threads: &T,
     words: &'a Words,
     places: InputPlaces,
-) -> u8 {
+) -> u8
+    ensures { MayToolEnd (tool_causes words.now) (pair_command words.now) result }
+{
     let ToolFiles {
         mut first,
         mut second,
@@ -33,7 +40,9 @@ pub(crate) fn pair<'a, T: Threads + Sync>(
 }
 
 /// Joins two streams at a cut.
-pub(crate) fn join<'a>(rt: &'a HostRuntime, words: &'a Words) -> u8 {
+pub(crate) fn join<'a>(rt: &'a HostRuntime, words: &'a Words) -> u8
+    ensures { MayToolEnd splice_causes (splice_words words.now) result }
+{
     let ToolFiles {
         mut first,
         mut second,

@@ -2,7 +2,7 @@ ghost use Rattle.std.specs.Prelude.{◌≡◌, ◌⊎◌};
 ghost use Rattle.sub_base.specs.Endpoints.{WroteNothing};
 ghost use Rattle.sub_base.specs.ToolOutcome.{tool_code, untold_tool};
 ghost use Rattle.program_files.specs.Table.{IsToldOn};
-ghost use Rattle.tool_files.specs.Ends.{tool_lines};
+ghost use Rattle.tool_files.specs.Ends.{tool_lines, IsToolTold};
 
 use crate::table::TOOLS;
 use command_text::tell_tool;
@@ -13,6 +13,7 @@ use sub_base::{FaultName, FileSink, Sink, ToolStatus};
 /// Writes the line of a status to standard output, or to standard error where standard output has
 /// the tool's own, and the table of tools to standard error where the command line was wrong.
 /// Answers the code.
+#[tactic(auto, using(crate::proofs::EndLaws::told_code))]
 pub(crate) fn tell_on<F: FaultName + Copy>(
     rt: &HostRuntime,
     status: ToolStatus<F>,
@@ -48,7 +49,7 @@ pub fn told<F: FaultName + Copy, E: Sink, O: Sink>(
     errors: &mut E,
     out: &mut O,
 ) -> u8
-    ensures code { (result ≡ tool_code status) ⊎ (result ≡ tool_code (untold_tool status)) }
+    ensures line { IsToolTold F.name_of (O.received out.old) (O.received out.new) status result }
     ensures table { status ≡ ToolStatus.Usage
         → IsToldOn (E.received errors.old) (E.received errors.new) tool_lines }
     ensures no_table { (status ≡ ToolStatus.Usage → ⊥)
