@@ -39,7 +39,7 @@ IsEnding kind has_written is_finished run ending =
 abbrev pub command_lines : List ℕ
 command_lines = COMMANDS.now ++ 10 ∷ []
 
--- a sink has received the line of the status, or a front of it where it failed; the code is that of the status, which
+-- a sink has received the line of the status, or a prefix of it where it failed; the code is that of the status, which
 -- is another one where `done` could not be told
 abbrev pub IsToldWith : Received → Received → Status → ℕ → Type 0
 IsToldWith before now run code = (answer : Status) × TellsStatus before now run answer × (code ≡ code_of answer)

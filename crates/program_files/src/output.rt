@@ -18,7 +18,7 @@ pub struct Output<'a> {
     place: Place<'a>,
     opened: Option<Opened>,
     has_written: bool,
-    // Whether what was written took its place when the output was finished. Statuses depend on it.
+    // Whether `finish` put what was written in its place: what is said of a status depends on it.
     is_finished: bool,
 }
 

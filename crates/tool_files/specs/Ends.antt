@@ -34,7 +34,7 @@ use Rattle.tool_files.specs.declared.tool.Tool.TheVariants as tool
 abbrev pub tool_lines : List ℕ
 tool_lines = TOOLS.now ++ 10 ∷ []
 
--- a sink has received the line of the status, or a front of it where it failed; the code is that of the status, which
+-- a sink has received the line of the status, or a prefix of it where it failed; the code is that of the status, which
 -- is another one where `done` could not be told
 abbrev pub IsToolTold : {F : Type 0} → (F → List ℕ) → Received → Received → ToolStatus F → ℕ → Type 0
 IsToolTold {F} name before now run code =
