@@ -1,0 +1,3 @@
+pub mod WholeSections
+pub mod CutPackets
+pub mod SectionsCome
