@@ -72,36 +72,33 @@ again : (counter : ℕ) → succession (Some counter) counter ≡ Again
 again counter = rw (eq-eqb counter counter refl) refl
 
 -- it changes nothing
-pub record Stays (pid counter : ℕ) (packet : List ℕ) : Type 0 where
-  pub ends : (hand : Option (List ℕ))
-      → ended_with pid (Some counter) hand packet ≡ record { sections = []; hand = hand }
-  pub last : (before : List (List ℕ)) → last_counter pid before ≡ Some counter
-      → last_counter pid (packet ∷ before) ≡ Some counter
+pub record Stays (pid : ℕ) (last : Option ℕ) (packet : List ℕ) : Type 0 where
+  pub ends : (hand : Option (List ℕ)) → ended_with pid last hand packet ≡ record { sections = []; hand = hand }
+  pub counter : (before : List (List ℕ)) → last_counter pid before ≡ last
+      → last_counter pid (packet ∷ before) ≡ last
 
-pub stays : (pid counter : ℕ) (packet : List ℕ) → IsBetween pid counter packet → Stays pid counter packet
+pub stays : (pid : ℕ) (last : Option ℕ) (packet : List ℕ) → IsBetween pid last packet → Stays pid last packet
 unfolding ended_with
-stays pid counter packet (inl other) =
+stays pid last packet (inl other) =
     let tested : nat_eq (pid_of packet) pid ≡ false = ne_eqb (pid_of packet) pid other in
-    record { ends = λ hand. rw tested refl; last = λ before last. rw tested last }
-stays pid counter packet (inr (inl empty)) =
+    record { ends = λ hand. rw tested refl; counter = λ before same. rw tested same }
+stays pid last packet (inr (inl empty)) =
     let tested : nat_eq (pid_of packet) pid ≡ true = eq-eqb (pid_of packet) pid empty.0 in
-    let sound : is_broken packet ≡ false =
-    not_broken packet empty.1 (ap (λ (c : ℕ). nat_eq c 0) empty.2) in
+    let sound : is_broken packet ≡ false = not_broken packet empty.1 (ap (λ (c : ℕ). nat_eq c 0) empty.2) in
     let bare : has_payload packet ≡ false = ap (λ (c : ℕ). nat_eq c 1 || nat_eq c 3) empty.2 in
-    record { ends = λ hand. rw (tested, sound, bare) refl; last = λ before last. rw (tested, sound, bare) last }
-stays pid counter packet (inr (inr double)) =
+    record { ends = λ hand. rw (tested, sound, bare) refl; counter = λ before same. rw (tested, sound, bare) same }
+stays pid last packet (inr (inr double)) =
     let is : Carries pid (has_start_flag packet) (payload_of packet) packet =
     record { own = double.0; sound = double.1; full = double.2; begins = refl; payload = refl } in
     record {
       ends = λ hand.
-          carried pid (has_start_flag packet) (payload_of packet) packet is (Some counter) hand
-          ∙ ap (λ (n : ℕ). by_counter hand (succession (Some counter) n) (has_start_flag packet) (payload_of packet))
-          double.3
+          carried pid (has_start_flag packet) (payload_of packet) packet is last hand
+          ∙ ap (λ (l : Option ℕ). by_counter hand (succession l (counter_of packet)) (has_start_flag packet)
+          (payload_of packet)) double.3
           ∙ ap (λ (order : Succession). by_counter hand order (has_start_flag packet) (payload_of packet))
-          (again counter);
-      last = λ before last.
-          counted pid (has_start_flag packet) (payload_of packet) packet is before
-          ∙ ap (λ (n : ℕ). Some n) double.3;
+          (again (counter_of packet));
+      counter = λ before same.
+          counted pid (has_start_flag packet) (payload_of packet) packet is before ∙ sym double.3;
     }
 
 -- ---- the order of counters
@@ -128,9 +125,10 @@ taken hand (Some before) start bytes counter other =
     either false = (None, refl)
 
 -- the next counter
-pub next_order : (counter : ℕ) (packet : List ℕ) → Follows counter packet
-    → succession (Some counter) (counter_of packet) ≡ Next
-next_order counter packet follows = ap (succession (Some counter)) follows ∙ next
+pub next_order : (last : Option ℕ) (packet : List ℕ) → Follows last packet
+    → succession last (counter_of packet) ≡ Next
+next_order None packet follows = absurd follows
+next_order (Some counter) packet follows = ap (succession (Some counter)) follows ∙ next
   where
     next : succession (Some counter) ((counter + 1) % 16) ≡ Next
     next =

@@ -1,3 +1,4 @@
-pub mod WholeSections
 pub mod CutPackets
+pub mod LaidPackets
 pub mod SectionsCome
+pub mod WholeSections

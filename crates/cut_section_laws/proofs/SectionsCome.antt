@@ -1,5 +1,5 @@
 -- A section comes out whole however it is cut into packets.
-use Rattle.std.proofs.Common.{◌≡◌, ◌≢◌, ◌∙◌, ℕ, suc, ◌-◌, ◌≤◌, Bool, true, false, List, [], ◌∷◌, ◌++◌, length, replicate, Some, sym, ap, subst, inl, inr, arith, append_assoc, length-append}
+use Rattle.std.proofs.Common.{◌≡◌, ◌≢◌, ◌∙◌, ℕ, suc, ◌-◌, ◌≤◌, Bool, true, false, List, [], ◌∷◌, ◌++◌, length, replicate, Option, Some, sym, ap, subst, inl, inr, arith, append_assoc, length-append}
 use Rattle.std.specs.List.{concat}
 use Rattle.std.proofs.lemmas.List.{append-nil}
 use Rattle.stream_syntax.specs.TransportPackets.{counter_of}
@@ -46,7 +46,7 @@ module _ (pid : ℕ) where
         here.ended,
         (all_in rest).sections,
         here.few,
-        nothing_in rest,
+        (λ stuffing. ap (λ (e : Ended). e.sections) (nothing_in rest stuffing)),
         here.sections ∙ ap (λ (e : Ended). here.ended ++ e.sections) (sections_in sections rest all)
             ∙ sym (append_assoc here.ended sections (all_in rest).sections),
       )
@@ -75,125 +75,125 @@ module _ (pid : ℕ) where
         ∙ one_earlier (length packets) ((section ∷ comes.later) ∷ []) some;
   }
 
-  some_packet : (counter : ℕ) (pieces packets : List (List ℕ)) → GoesOn pid counter pieces packets
+  some_packet : (last : Option ℕ) (pieces packets : List (List ℕ)) → GoesOn pid last pieces packets
       → 1 ≤ length packets
-  some_packet counter pieces [] goes = absurd goes
-  some_packet counter pieces (packet ∷ packets) goes = omega arith
+  some_packet last pieces [] goes = absurd goes
+  some_packet last pieces (packet ∷ packets) goes = omega arith
 
-  some_byte : (counter : ℕ) (pieces packets : List (List ℕ)) → GoesOn pid counter pieces packets
+  some_byte : (last : Option ℕ) (pieces packets : List (List ℕ)) → GoesOn pid last pieces packets
       → 1 ≤ length (concat pieces)
-  some_byte counter pieces [] goes = absurd goes
-  some_byte counter [] (packet ∷ packets) goes = absurd goes
-  some_byte counter (piece ∷ []) (packet ∷ packets) (inl between) =
-      some_byte counter (piece ∷ []) packets between.1
-  some_byte counter (piece ∷ []) (packet ∷ packets) (inr ends) =
+  some_byte last pieces [] goes = absurd goes
+  some_byte last [] (packet ∷ packets) goes = absurd goes
+  some_byte last (piece ∷ []) (packet ∷ packets) (inl between) =
+      some_byte last (piece ∷ []) packets between.1
+  some_byte last (piece ∷ []) (packet ∷ packets) (inr ends) =
       let lengths = length-append piece (concat []) in omega (arith, ends.1)
-  some_byte counter (piece ∷ second ∷ pieces) (packet ∷ packets) (inl between) =
-      some_byte counter (piece ∷ second ∷ pieces) packets between.1
-  some_byte counter (piece ∷ second ∷ pieces) (packet ∷ packets) (inr goes) =
+  some_byte last (piece ∷ second ∷ pieces) (packet ∷ packets) (inl between) =
+      some_byte last (piece ∷ second ∷ pieces) packets between.1
+  some_byte last (piece ∷ second ∷ pieces) (packet ∷ packets) (inr goes) =
       let lengths = length-append piece (concat (second ∷ pieces)) in omega (arith, goes.0)
 
-  -- the front of the section is in hand, and this counter is the last
-  record Waits (before : List (List ℕ)) (counter : ℕ) (front : List ℕ) : Type 0 where
+  -- the front of the section is in hand, and this last is the last
+  record Waits (before : List (List ℕ)) (last : Option ℕ) (front : List ℕ) : Type 0 where
     hand : hand_behind pid before ≡ Some front
-    last : last_counter pid before ≡ Some counter
+    counter : last_counter pid before ≡ last
 
-  waited : (before : List (List ℕ)) (counter : ℕ) (front packet : List ℕ) → Waits before counter front
-      → ends_at pid before packet ≡ ended_with pid (Some counter) (Some front) packet
-  waited before counter front packet waits = λ i. ended_with pid (waits.last i) (waits.hand i) packet
+  waited : (before : List (List ℕ)) (last : Option ℕ) (front packet : List ℕ) → Waits before last front
+      → ends_at pid before packet ≡ ended_with pid last (Some front) packet
+  waited before last front packet waits = λ i. ended_with pid (waits.counter i) (waits.hand i) packet
 
   -- a packet between changes nothing
-  record Passed (before : List (List ℕ)) (counter : ℕ) (front packet : List ℕ) : Type 0 where
+  record Passed (before : List (List ℕ)) (last : Option ℕ) (front packet : List ℕ) : Type 0 where
     nothing : sections_at pid before packet ≡ []
-    waits : Waits (packet ∷ before) counter front
+    waits : Waits (packet ∷ before) last front
 
-  passed_over : (before : List (List ℕ)) (counter : ℕ) (front packet : List ℕ) → Waits before counter front
-      → IsBetween pid counter packet → Passed before counter front packet
-  passed_over before counter front packet waits between =
-      let same = stays pid counter packet between in
-      let ends = waited before counter front packet waits ∙ same.ends (Some front) in
+  passed_over : (before : List (List ℕ)) (last : Option ℕ) (front packet : List ℕ) → Waits before last front
+      → IsBetween pid last packet → Passed before last front packet
+  passed_over before last front packet waits between =
+      let same = stays pid last packet between in
+      let ends = waited before last front packet waits ∙ same.ends (Some front) in
       record {
         nothing = ap (λ (e : Ended). e.sections) ends;
         waits = record {
           hand = hand_is pid before packet ∙ ap (λ (e : Ended). e.hand) ends;
-          last = same.last before waits.last;
+          counter = same.counter before waits.counter;
         };
       }
 
   -- a payload behind the front
-  next_payload : (before : List (List ℕ)) (counter : ℕ) (front : List ℕ) (start : Bool) (bytes packet : List ℕ)
-      → Waits before counter front → Follows counter packet → Carries pid start bytes packet
+  next_payload : (before : List (List ℕ)) (last : Option ℕ) (front : List ℕ) (start : Bool) (bytes packet : List ℕ)
+      → Waits before last front → Follows last packet → Carries pid start bytes packet
       → ends_at pid before packet ≡ by_counter (Some front) Next start bytes
-  next_payload before counter front start bytes packet waits follows is =
-      waited before counter front packet waits
-      ∙ carried pid start bytes packet is (Some counter) (Some front)
-      ∙ ap (λ (order : Succession). by_counter (Some front) order start bytes) (next_order counter packet follows)
+  next_payload before last front start bytes packet waits follows is =
+      waited before last front packet waits
+      ∙ carried pid start bytes packet is last (Some front)
+      ∙ ap (λ (order : Succession). by_counter (Some front) order start bytes) (next_order last packet follows)
 
   -- a piece that is not the last
-  grows : (before : List (List ℕ)) (counter : ℕ) (front piece rest packet : List ℕ) → Waits before counter front
-      → IsSection ((front ++ piece) ++ rest) → 1 ≤ length rest → Follows counter packet
-      → Carries pid false piece packet → Passed before (counter_of packet) (front ++ piece) packet
-  grows before counter front piece rest packet waits is some follows carries =
+  grows : (before : List (List ℕ)) (last : Option ℕ) (front piece rest packet : List ℕ) → Waits before last front
+      → IsSection ((front ++ piece) ++ rest) → 1 ≤ length rest → Follows last packet
+      → Carries pid false piece packet → Passed before (Some (counter_of packet)) (front ++ piece) packet
+  grows before last front piece rest packet waits is some follows carries =
       let ends =
-      next_payload before counter front false piece packet waits follows carries
+      next_payload before last front false piece packet waits follows carries
       ∙ piece_grows front piece rest is some in
       record {
         nothing = ap (λ (e : Ended). e.sections) ends;
         waits = record {
           hand = hand_is pid before packet ∙ ap (λ (e : Ended). e.hand) ends;
-          last = counted pid false piece packet carries before;
+          counter = counted pid false piece packet carries before;
         };
       }
 
   -- the last piece
-  ends_here : (before : List (List ℕ)) (counter : ℕ) (front piece packet : List ℕ) → Waits before counter front
-      → IsSection (front ++ piece) → Follows counter packet → EndsIn pid piece packet
+  ends_here : (before : List (List ℕ)) (last : Option ℕ) (front piece packet : List ℕ) → Waits before last front
+      → IsSection (front ++ piece) → Follows last packet → EndsIn pid piece packet
       → Comes before (packet ∷ []) (front ++ piece)
-  ends_here before counter front piece packet waits is follows (inl ends) = record {
+  ends_here before last front piece packet waits is follows (inl ends) = record {
     later = [];
     each = ap (λ (e : Ended). e.sections ∷ [])
-        (next_payload before counter front false (piece ++ ends.0) packet waits follows ends.1
+        (next_payload before last front false (piece ++ ends.0) packet waits follows ends.1
         ∙ piece_ends front piece ends.0 is);
   }
-  ends_here before counter front piece packet waits is follows (inr ends) = record {
+  ends_here before last front piece packet waits is follows (inr ends) = record {
     later = (all_in ends.1).sections;
     each = ap (λ (e : Ended). e.sections ∷ [])
-        (next_payload before counter front true (pointed (piece ++ ends.0) ends.1) packet waits follows ends.2
+        (next_payload before last front true (pointed (piece ++ ends.0) ends.1) packet waits follows ends.2
         ∙ pointed_is (Some front) (piece ++ ends.0) ends.1)
         ∙ ap (λ (e : Ended). (e.sections ++ (all_in ends.1).sections) ∷ []) (piece_ends front piece ends.0 is);
   }
 
-  comes : (packets pieces before : List (List ℕ)) (counter : ℕ) (front section : List ℕ) → IsSection section
-      → section ≡ front ++ concat pieces → Waits before counter front → GoesOn pid counter pieces packets
+  comes : (packets pieces before : List (List ℕ)) (last : Option ℕ) (front section : List ℕ) → IsSection section
+      → section ≡ front ++ concat pieces → Waits before last front → GoesOn pid last pieces packets
       → Comes before packets section
-  comes [] pieces before counter front section is whole waits goes = absurd goes
-  comes (packet ∷ packets) [] before counter front section is whole waits goes = absurd goes
-  comes (packet ∷ packets) (piece ∷ []) before counter front section is whole waits (inl between) =
-      let over = passed_over before counter front packet waits between.0 in
-      comes_later before packets packet section over.nothing (some_packet counter (piece ∷ []) packets between.1)
-      (comes packets (piece ∷ []) (packet ∷ before) counter front section is whole over.waits between.1)
-  comes (packet ∷ []) (piece ∷ []) before counter front section is whole waits (inr ends) =
+  comes [] pieces before last front section is whole waits goes = absurd goes
+  comes (packet ∷ packets) [] before last front section is whole waits goes = absurd goes
+  comes (packet ∷ packets) (piece ∷ []) before last front section is whole waits (inl between) =
+      let over = passed_over before last front packet waits between.0 in
+      comes_later before packets packet section over.nothing (some_packet last (piece ∷ []) packets between.1)
+      (comes packets (piece ∷ []) (packet ∷ before) last front section is whole over.waits between.1)
+  comes (packet ∷ []) (piece ∷ []) before last front section is whole waits (inr ends) =
       let bytes : section ≡ front ++ piece = whole ∙ ap (λ (l : List ℕ). front ++ l) (append-nil piece) in
       let Is : List ℕ → Type 0 = λ l. IsSection l in
       let All : List ℕ → Type 0 = λ l. Comes before (packet ∷ []) l in
-      subst All (sym bytes) (ends_here before counter front piece packet waits (subst Is bytes is) ends.2 ends.3)
-  comes (packet ∷ next ∷ packets) (piece ∷ []) before counter front section is whole waits (inr ends) = absurd cc
-  comes (packet ∷ packets) (piece ∷ second ∷ pieces) before counter front section is whole waits (inl between) =
-      let over = passed_over before counter front packet waits between.0 in
+      subst All (sym bytes) (ends_here before last front piece packet waits (subst Is bytes is) ends.2 ends.3)
+  comes (packet ∷ next ∷ packets) (piece ∷ []) before last front section is whole waits (inr ends) = absurd cc
+  comes (packet ∷ packets) (piece ∷ second ∷ pieces) before last front section is whole waits (inl between) =
+      let over = passed_over before last front packet waits between.0 in
       comes_later before packets packet section over.nothing
-      (some_packet counter (piece ∷ second ∷ pieces) packets between.1)
-      (comes packets (piece ∷ second ∷ pieces) (packet ∷ before) counter front section is whole over.waits between.1)
-  comes (packet ∷ packets) (piece ∷ second ∷ pieces) before counter front section is whole waits (inr goes) =
+      (some_packet last (piece ∷ second ∷ pieces) packets between.1)
+      (comes packets (piece ∷ second ∷ pieces) (packet ∷ before) last front section is whole over.waits between.1)
+  comes (packet ∷ packets) (piece ∷ second ∷ pieces) before last front section is whole waits (inr goes) =
       let regrouped : section ≡ (front ++ piece) ++ concat (second ∷ pieces) =
       whole ∙ sym (append_assoc front piece (concat (second ∷ pieces))) in
       let Is : List ℕ → Type 0 = λ l. IsSection l in
       let over =
-      grows before counter front piece (concat (second ∷ pieces)) packet waits (subst Is regrouped is)
-      (some_byte (counter_of packet) (second ∷ pieces) packets goes.3) goes.1 goes.2 in
+      grows before last front piece (concat (second ∷ pieces)) packet waits (subst Is regrouped is)
+      (some_byte (Some (counter_of packet)) (second ∷ pieces) packets goes.3) goes.1 goes.2 in
       comes_later before packets packet section over.nothing
-      (some_packet (counter_of packet) (second ∷ pieces) packets goes.3)
-      (comes packets (second ∷ pieces) (packet ∷ before) (counter_of packet) (front ++ piece) section is regrouped
-      over.waits goes.3)
+      (some_packet (Some (counter_of packet)) (second ∷ pieces) packets goes.3)
+      (comes packets (second ∷ pieces) (packet ∷ before) (Some (counter_of packet)) (front ++ piece) section is
+      regrouped over.waits goes.3)
 
   pub every_cutting : EveryCutting pid
   every_cutting before packets earlier pieces first passed front section is whole some all other carries goes =
@@ -201,13 +201,15 @@ module _ (pid : ℕ) where
       let here = begun before first passed (concat earlier ++ front) other carries in
       let inside = sections_in earlier front all
       ∙ ap (λ (e : Ended). record { sections = earlier ++ e.sections; hand = e.hand })
-      (front_in front (concat pieces) (subst Is whole is) some (some_byte (counter_of first) pieces packets goes)) in
-      let waits : Waits (first ∷ before) (counter_of first) front =
+      (front_in front (concat pieces) (subst Is whole is) some
+      (some_byte (Some (counter_of first)) pieces packets goes)) in
+      let waits : Waits (first ∷ before) (Some (counter_of first)) front =
       record {
         hand = here.hand ∙ ap (λ (e : Ended). e.hand) inside;
-        last = counted pid true (pointed passed (concat earlier ++ front)) first carries before;
+        counter = counted pid true (pointed passed (concat earlier ++ front)) first carries before;
       } in
-      let behind = comes packets pieces (first ∷ before) (counter_of first) front section is whole waits goes in (
+      let behind =
+      comes packets pieces (first ∷ before) (Some (counter_of first)) front section is whole waits goes in (
         here.ended,
         behind.later,
         here.few,

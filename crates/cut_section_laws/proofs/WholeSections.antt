@@ -130,12 +130,12 @@ sections_in (section ∷ sections) rest all =
     ∙ ap (λ (e : Ended). record { sections = section ∷ e.sections; hand = e.hand }) (sections_in sections rest all.1)
 
 -- in stuffing there is none
-pub nothing_in : (bytes : List ℕ) → IsStuffing bytes → (all_in bytes).sections ≡ []
+pub nothing_in : (bytes : List ℕ) → IsStuffing bytes → all_in bytes ≡ none_ended
 nothing_in [] stuffing = refl
 nothing_in (byte ∷ bytes) (inl none) = absurd cc
 nothing_in (byte ∷ bytes) (inr stuffing) = by (nat_eq byte 255) (eq-eqb byte 255 stuffing) _
   where
-    by : (b : Bool) → b ≡ true → (e : Ended) → (cond b none_ended e).sections ≡ []
+    by : (b : Bool) → b ≡ true → (e : Ended) → cond b none_ended e ≡ none_ended
     by true f e = refl
     by false f e = absurd cc
 

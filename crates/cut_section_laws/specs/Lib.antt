@@ -1,1 +1,2 @@
+pub mod LaidSections
 pub mod SectionCuts

@@ -9,8 +9,8 @@ use Rattle.section_reader.specs.Sections.{sections_at}
 
 -- ---- sections and packets
 
--- one whole section: it has as many bytes as its section_length says, and another table_id than the forbidden 0xFF, with
--- which stuffing begins
+-- one whole section: it has as many bytes as its section_length says, and another table_id than 0xFF, which is
+-- forbidden: stuffing begins with it
 pub record IsSection (section : List ℕ) : Type 0 where
   pub whole : whole_section section ≡ Some section
   pub named : byte_at 0 section ≢ 0xFF
@@ -28,8 +28,8 @@ pub record Carries (pid : ℕ) (start : Bool) (bytes packet : List ℕ) : Type 0
   pub begins : has_start_flag packet ≡ start
   pub payload : payload_of packet ≡ bytes
 
--- a payload that begins with a pointer_field: it says how many bytes it passes, and the first section that begins in the
--- packet stands behind these
+-- a payload that begins with a pointer_field: it says how many bytes it passes, and behind these the first section
+-- stands that begins in the packet
 abbrev pub pointed : List ℕ → List ℕ → List ℕ
 pointed passed bytes = length passed ∷ passed ++ bytes
 
@@ -46,21 +46,23 @@ counter_before pid [] = None
 counter_before pid (packet ∷ before) =
     if is_counted pid packet then Some (counter_of packet) else counter_before pid before
 
--- a packet that adds nothing, where the last that counts has this counter: one of another PID, whatever stands in it; one
--- with an adaptation field alone (adaptation_field_control 2); and a double, which has the same counter
-abbrev pub IsBetween : ℕ → ℕ → List ℕ → Type 0
-IsBetween pid counter packet =
+-- a packet that adds nothing, where the last that counts has this counter: one of another PID, whatever stands in it;
+-- one with an adaptation field alone (adaptation_field_control 2); and a double, which has the same counter
+abbrev pub IsBetween : ℕ → Option ℕ → List ℕ → Type 0
+IsBetween pid last packet =
     (pid_of packet ≢ pid)
     ⊎ (((pid_of packet ≡ pid) × IsSound packet × (control_of packet ≡ 2))
-    ⊎ ((pid_of packet ≡ pid) × IsSound packet × (has_payload packet ≡ true) × (counter_of packet ≡ counter)))
+    ⊎ ((pid_of packet ≡ pid) × IsSound packet × (has_payload packet ≡ true) × (last ≡ Some (counter_of packet))))
 
--- the next counter, modulo 16
-abbrev pub Follows : ℕ → List ℕ → Type 0
-Follows counter packet = counter_of packet ≡ (counter + 1) % 16
+-- the packet's counter is the next one, modulo 16
+abbrev pub Follows : Option ℕ → List ℕ → Type 0
+Follows None packet = ⊥
+Follows (Some counter) packet = counter_of packet ≡ (counter + 1) % 16
 
 -- ---- cuts
 
--- the last piece of a section is the front of a payload, or stands before the place to which the pointer_field points
+-- the packet carries the last piece of a section: as the front of its payload, or, where others begin in it, before the
+-- place to which the pointer_field points
 abbrev pub EndsIn : ℕ → List ℕ → List ℕ → Type 0
 EndsIn pid piece packet =
     ((rest : List ℕ) × Carries pid false (piece ++ rest) packet)
@@ -68,16 +70,16 @@ EndsIn pid piece packet =
 
 -- behind a packet with this counter packets carry these pieces of a section, one after another: each but the last is a
 -- whole payload without payload_unit_start_indicator, the counters go on, and other packets stand anywhere between
-abbrev pub GoesOn : ℕ → ℕ → List (List ℕ) → List (List ℕ) → Type 0
-GoesOn pid counter pieces [] = ⊥
-GoesOn pid counter [] (packet ∷ packets) = ⊥
-GoesOn pid counter (piece ∷ []) (packet ∷ packets) =
-    (IsBetween pid counter packet × GoesOn pid counter (piece ∷ []) packets)
-    ⊎ ((packets ≡ []) × (1 ≤ length piece) × Follows counter packet × EndsIn pid piece packet)
-GoesOn pid counter (piece ∷ second ∷ pieces) (packet ∷ packets) =
-    (IsBetween pid counter packet × GoesOn pid counter (piece ∷ second ∷ pieces) packets)
-    ⊎ ((1 ≤ length piece) × Follows counter packet × Carries pid false piece packet
-    × GoesOn pid (counter_of packet) (second ∷ pieces) packets)
+abbrev pub GoesOn : ℕ → Option ℕ → List (List ℕ) → List (List ℕ) → Type 0
+GoesOn pid last pieces [] = ⊥
+GoesOn pid last [] (packet ∷ packets) = ⊥
+GoesOn pid last (piece ∷ []) (packet ∷ packets) =
+    (IsBetween pid last packet × GoesOn pid last (piece ∷ []) packets)
+    ⊎ ((packets ≡ []) × (1 ≤ length piece) × Follows last packet × EndsIn pid piece packet)
+GoesOn pid last (piece ∷ second ∷ pieces) (packet ∷ packets) =
+    (IsBetween pid last packet × GoesOn pid last (piece ∷ second ∷ pieces) packets)
+    ⊎ ((1 ≤ length piece) × Follows last packet × Carries pid false piece packet
+    × GoesOn pid (Some (counter_of packet)) (second ∷ pieces) packets)
 
 -- ---- what comes of them
 
@@ -91,9 +93,9 @@ sections_by_packet pid before (packet ∷ packets) =
 abbrev pub IsStuffing : List ℕ → Type 0
 IsStuffing bytes = (bytes ≡ []) ⊎ (byte_at 0 bytes ≡ 0xFF)
 
--- sections that stand whole in one payload, one behind another from the place to which the pointer_field points, come at
--- this packet, all of them and in order, behind at most one that ends before that place. Where nothing or stuffing is
--- behind them, no other comes
+-- sections that stand whole in one payload, one behind another from the place to which the pointer_field points, come
+-- at this packet, whatever came before it, all of them and in order: behind at most one that ends before that place,
+-- and before any that stand behind them. Where nothing or stuffing does, no other comes
 abbrev pub WholeInOne : ℕ → Type 0
 WholeInOne pid =
     (before sections : List (List ℕ)) (packet passed rest : List ℕ) → AllByRecursion IsSection sections
@@ -102,14 +104,16 @@ WholeInOne pid =
     → (ended later : List (List ℕ)) × (length ended ≤ 1) × (IsStuffing rest → later ≡ [])
     × (sections_at pid before packet ≡ ended ++ sections ++ later)
 
--- however a section is cut, and whatever came before it, it comes whole, once, at the last of its packets, before any
--- that begins there. At the first of them only the sections come that end before it, and at those between none
+-- a section that begins at the place to which a pointer_field points, or behind others that stand whole from there on,
+-- and goes on in the packets behind it, comes whole at the last of these, whatever came before it and however it is
+-- cut: before any that begin there. At the first packet those come that end before it, and at the packets between none
 abbrev pub EveryCutting : ℕ → Type 0
 EveryCutting pid =
     (before packets earlier pieces : List (List ℕ)) (first passed front section : List ℕ) → IsSection section
     → section ≡ front ++ concat pieces → 1 ≤ length front → AllByRecursion IsSection earlier
     → counter_before pid before ≢ Some (counter_of first)
-    → Carries pid true (pointed passed (concat earlier ++ front)) first → GoesOn pid (counter_of first) pieces packets
+    → Carries pid true (pointed passed (concat earlier ++ front)) first
+    → GoesOn pid (Some (counter_of first)) pieces packets
     → (ended later : List (List ℕ)) × (length ended ≤ 1)
     × (sections_by_packet pid before (first ∷ packets)
     ≡ (ended ++ earlier) ∷ replicate (length packets - 1) [] ++ (section ∷ later) ∷ [])

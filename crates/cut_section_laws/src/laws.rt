@@ -1,4 +1,5 @@
 ghost use Rattle.std.specs.Prelude.{ℕ};
+ghost use Rattle.cut_section_laws.specs.LaidSections.{EveryLaying};
 ghost use Rattle.cut_section_laws.specs.SectionCuts.{EveryCutting, WholeInOne};
 
 /// A section that is cut over packets of a PID in any way (ISO/IEC 13818-1, 2.4.4), with packets of
@@ -9,4 +10,12 @@ ghost use Rattle.cut_section_laws.specs.SectionCuts.{EveryCutting, WholeInOne};
 pub fn every_cutting_gives_its_section()
     ensures whole { (pid : ℕ) → WholeInOne pid }
     ensures cut { (pid : ℕ) → EveryCutting pid }
+{}
+
+/// Sections that are laid over the packets of a stream one after another, in any way (ISO/IEC
+/// 13818-1, 2.4.4), come out each once and in order, and nothing else does: those that end in the
+/// stream without a loss. Lost is a section of which packets are missing or damaged, or that the
+/// next one begins in. The packets may begin within a section.
+pub fn every_laying_gives_its_sections()
+    ensures { (pid : ℕ) → EveryLaying pid }
 {}

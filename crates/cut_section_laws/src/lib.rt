@@ -4,4 +4,4 @@
 
 mod laws;
 
-pub use laws::every_cutting_gives_its_section;
+pub use laws::{every_cutting_gives_its_section, every_laying_gives_its_sections};
