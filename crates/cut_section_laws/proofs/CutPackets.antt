@@ -6,14 +6,14 @@ use Rattle.std.proofs.lemmas.Bool.Decides.{nat_tests}
 use Rattle.stream_syntax.specs.TransportPackets.{pid_of, has_error_flag, has_start_flag, has_payload, has_bad_field, control_of, counter_of, payload_of}
 use Rattle.stream_syntax.specs.Units.{Succession, Next, Again, Missing, succession}
 use Rattle.section_reader.specs.Sections.{Ended, by_counter, counts, ended_with, hand_behind, is_broken, last_counter, with_payload}
-use Rattle.cut_section_laws.specs.SectionCuts.{Carries, Follows, IsBetween, IsSound, counter_before, is_counted}
+use Rattle.cut_section_laws.specs.SectionCuts.{Carries, HasNextCounter, AddsNothing, IsUndamaged, counter_before, is_counted}
 
 -- ---- the tests of a packet
 
 some_payload : (control : ℕ) → (nat_eq control 1 || nat_eq control 3) ≡ true → nat_eq control 0 ≡ false
 some_payload control full = grind (arith, nat_tests)
 
-not_broken : (packet : List ℕ) → IsSound packet → nat_eq (control_of packet) 0 ≡ false → is_broken packet ≡ false
+not_broken : (packet : List ℕ) → IsUndamaged packet → nat_eq (control_of packet) 0 ≡ false → is_broken packet ≡ false
 not_broken packet sound control = rw (sound.unmarked, control, sound.fitting) refl
 
 -- what counts for the reader counts
@@ -77,7 +77,7 @@ pub record Stays (pid : ℕ) (last : Option ℕ) (packet : List ℕ) : Type 0 wh
   pub counter : (before : List (List ℕ)) → last_counter pid before ≡ last
       → last_counter pid (packet ∷ before) ≡ last
 
-pub stays : (pid : ℕ) (last : Option ℕ) (packet : List ℕ) → IsBetween pid last packet → Stays pid last packet
+pub stays : (pid : ℕ) (last : Option ℕ) (packet : List ℕ) → AddsNothing pid last packet → Stays pid last packet
 unfolding ended_with
 stays pid last packet (inl other) =
     let tested : nat_eq (pid_of packet) pid ≡ false = ne_eqb (pid_of packet) pid other in
@@ -125,7 +125,7 @@ taken hand (Some before) start bytes counter other =
     either false = (None, refl)
 
 -- the next counter
-pub next_order : (last : Option ℕ) (packet : List ℕ) → Follows last packet
+pub next_order : (last : Option ℕ) (packet : List ℕ) → HasNextCounter last packet
     → succession last (counter_of packet) ≡ Next
 next_order None packet follows = absurd follows
 next_order (Some counter) packet follows = ap (succession (Some counter)) follows ∙ next

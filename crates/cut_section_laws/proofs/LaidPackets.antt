@@ -5,7 +5,7 @@ use Rattle.stream_syntax.specs.TransportPackets.{pid_of, has_error_flag, has_bad
 use Rattle.stream_syntax.specs.Units.{Succession, Next, Again, Missing, succession}
 use Rattle.section_reader.specs.Sections.{Ended, by_counter, ended_with, hand_behind, is_broken, none_ended, sections_behind, with_payload}
 use Rattle.cut_section_laws.specs.LaidSections.{AreLaid, Closed, EveryLaying, IsDamaged, IsMissing, Lays, Open, Progress, Stand, between, broken_off, damaged, end, first, idle, lost, middle, next_ones, to_the_end, up_to_a_front}
-use Rattle.cut_section_laws.specs.SectionCuts.{IsSection, counter_before, is_counted, pointed}
+use Rattle.cut_section_laws.specs.SectionCuts.{IsWholeSection, counter_before, is_counted, pointed}
 use Rattle.cut_section_laws.proofs.CutPackets.{carried, ends_at, hand_is, next_order, same_counter, stays}
 use Rattle.cut_section_laws.proofs.WholeSections.{all_in, front_in, nothing_in, piece_ends, piece_grows, pointed_is, sections_in}
 
@@ -19,7 +19,7 @@ in_hand (Open begun owed) = Some begun
 -- what is open is a section of which bytes are to come
 abbrev IsRight : Progress → Type 0
 IsRight Closed = Unit {0}
-IsRight (Open begun owed) = IsSection (begun ++ owed) × (1 ≤ length owed)
+IsRight (Open begun owed) = IsWholeSection (begun ++ owed) × (1 ≤ length owed)
 
 -- the sections that end, and what is open then
 record Gives (ends : Ended) (sections : List (List ℕ)) (next : Progress) : Type 0 where
@@ -142,7 +142,7 @@ module _ (pid : ℕ) where
         right = behind.right;
       }
   step {last} {packet} {progress = Open begun owed} (middle piece more follows is bytes some) right =
-      let Is : List ℕ → Type 0 = λ l. IsSection l in
+      let Is : List ℕ → Type 0 = λ l. IsWholeSection l in
       let is_section = subst Is (regrouped begun piece more owed bytes) right.0 in
       record {
         are =
@@ -176,7 +176,7 @@ module _ (pid : ℕ) where
       }
   step {last} {packet} {progress = Open begun owed} (broken_off passed more bytes follows is over some stand) right =
       let behind = stand_is stand in
-      let Is : List ℕ → Type 0 = λ l. IsSection l in
+      let Is : List ℕ → Type 0 = λ l. IsWholeSection l in
       let is_section = subst Is (regrouped begun passed more owed over) right.0 in
       record {
         are =

@@ -5,7 +5,7 @@ use Rattle.std.proofs.lemmas.List.{append-nil}
 use Rattle.stream_syntax.specs.TransportPackets.{counter_of}
 use Rattle.stream_syntax.specs.Units.{Succession, Next}
 use Rattle.section_reader.specs.Sections.{Ended, by_counter, ended_with, grown, hand_behind, last_counter, sections_at}
-use Rattle.cut_section_laws.specs.SectionCuts.{Carries, EndsIn, EveryCutting, Follows, GoesOn, IsBetween, IsSection, WholeInOne, counter_before, pointed, sections_by_packet}
+use Rattle.cut_section_laws.specs.SectionCuts.{Carries, EndsIn, EveryCutting, HasNextCounter, GoesOn, AddsNothing, IsWholeSection, WholeInOne, counter_before, pointed, sections_by_packet}
 use Rattle.cut_section_laws.proofs.CutPackets.{carried, counted, ends_at, hand_is, next_order, same_counter, stays, taken}
 use Rattle.cut_section_laws.proofs.WholeSections.{all_in, front_in, nothing_in, one_at_most, piece_ends, piece_grows, pointed_is, sections_in}
 
@@ -108,7 +108,7 @@ module _ (pid : ℕ) where
     waits : Waits (packet ∷ before) last front
 
   passed_over : (before : List (List ℕ)) (last : Option ℕ) (front packet : List ℕ) → Waits before last front
-      → IsBetween pid last packet → Passed before last front packet
+      → AddsNothing pid last packet → Passed before last front packet
   passed_over before last front packet waits between =
       let same = stays pid last packet between in
       let ends = waited before last front packet waits ∙ same.ends (Some front) in
@@ -122,7 +122,7 @@ module _ (pid : ℕ) where
 
   -- a payload behind the front
   next_payload : (before : List (List ℕ)) (last : Option ℕ) (front : List ℕ) (start : Bool) (bytes packet : List ℕ)
-      → Waits before last front → Follows last packet → Carries pid start bytes packet
+      → Waits before last front → HasNextCounter last packet → Carries pid start bytes packet
       → ends_at pid before packet ≡ by_counter (Some front) Next start bytes
   next_payload before last front start bytes packet waits follows is =
       waited before last front packet waits
@@ -131,7 +131,7 @@ module _ (pid : ℕ) where
 
   -- a piece that is not the last
   grows : (before : List (List ℕ)) (last : Option ℕ) (front piece rest packet : List ℕ) → Waits before last front
-      → IsSection ((front ++ piece) ++ rest) → 1 ≤ length rest → Follows last packet
+      → IsWholeSection ((front ++ piece) ++ rest) → 1 ≤ length rest → HasNextCounter last packet
       → Carries pid false piece packet → Passed before (Some (counter_of packet)) (front ++ piece) packet
   grows before last front piece rest packet waits is some follows carries =
       let ends =
@@ -147,7 +147,7 @@ module _ (pid : ℕ) where
 
   -- the last piece
   ends_here : (before : List (List ℕ)) (last : Option ℕ) (front piece packet : List ℕ) → Waits before last front
-      → IsSection (front ++ piece) → Follows last packet → EndsIn pid piece packet
+      → IsWholeSection (front ++ piece) → HasNextCounter last packet → EndsIn pid piece packet
       → Comes before (packet ∷ []) (front ++ piece)
   ends_here before last front piece packet waits is follows (inl ends) = record {
     later = [];
@@ -163,7 +163,7 @@ module _ (pid : ℕ) where
         ∙ ap (λ (e : Ended). (e.sections ++ (all_in ends.1).sections) ∷ []) (piece_ends front piece ends.0 is);
   }
 
-  comes : (packets pieces before : List (List ℕ)) (last : Option ℕ) (front section : List ℕ) → IsSection section
+  comes : (packets pieces before : List (List ℕ)) (last : Option ℕ) (front section : List ℕ) → IsWholeSection section
       → section ≡ front ++ concat pieces → Waits before last front → GoesOn pid last pieces packets
       → Comes before packets section
   comes [] pieces before last front section is whole waits goes = absurd goes
@@ -174,7 +174,7 @@ module _ (pid : ℕ) where
       (comes packets (piece ∷ []) (packet ∷ before) last front section is whole over.waits between.1)
   comes (packet ∷ []) (piece ∷ []) before last front section is whole waits (inr ends) =
       let bytes : section ≡ front ++ piece = whole ∙ ap (λ (l : List ℕ). front ++ l) (append-nil piece) in
-      let Is : List ℕ → Type 0 = λ l. IsSection l in
+      let Is : List ℕ → Type 0 = λ l. IsWholeSection l in
       let All : List ℕ → Type 0 = λ l. Comes before (packet ∷ []) l in
       subst All (sym bytes) (ends_here before last front piece packet waits (subst Is bytes is) ends.2 ends.3)
   comes (packet ∷ next ∷ packets) (piece ∷ []) before last front section is whole waits (inr ends) = absurd cc
@@ -186,7 +186,7 @@ module _ (pid : ℕ) where
   comes (packet ∷ packets) (piece ∷ second ∷ pieces) before last front section is whole waits (inr goes) =
       let regrouped : section ≡ (front ++ piece) ++ concat (second ∷ pieces) =
       whole ∙ sym (append_assoc front piece (concat (second ∷ pieces))) in
-      let Is : List ℕ → Type 0 = λ l. IsSection l in
+      let Is : List ℕ → Type 0 = λ l. IsWholeSection l in
       let over =
       grows before last front piece (concat (second ∷ pieces)) packet waits (subst Is regrouped is)
       (some_byte (Some (counter_of packet)) (second ∷ pieces) packets goes.3) goes.1 goes.2 in
@@ -197,7 +197,7 @@ module _ (pid : ℕ) where
 
   pub every_cutting : EveryCutting pid
   every_cutting before packets earlier pieces first passed front section is whole some all other carries goes =
-      let Is : List ℕ → Type 0 = λ l. IsSection l in
+      let Is : List ℕ → Type 0 = λ l. IsWholeSection l in
       let here = begun before first passed (concat earlier ++ front) other carries in
       let inside = sections_in earlier front all
       ∙ ap (λ (e : Ended). record { sections = earlier ++ e.sections; hand = e.hand })

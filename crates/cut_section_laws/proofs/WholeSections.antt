@@ -7,7 +7,7 @@ use Rattle.stream_syntax.specs.Tests.{byte_at}
 use Rattle.psi_tables.specs.Sections.{is_cut, section_size, whole_section}
 use Rattle.section_reader.specs.Sections.{Ended, following, grown, none_ended, section_or_hand, started}
 use Rattle.section_reader.proofs.FollowingLaws.{following_same, follows_cut, follows_section, whole_is}
-use Rattle.cut_section_laws.specs.SectionCuts.{IsSection, IsStuffing, pointed}
+use Rattle.cut_section_laws.specs.SectionCuts.{IsWholeSection, IsStuffing, pointed}
 
 -- ---- the length of a section
 
@@ -16,7 +16,7 @@ record IsSized (section : List ℕ) : Type 0 where
   long : 3 ≤ length section
   count : section_size section ≡ length section
 
-sized : (section : List ℕ) → IsSection section → IsSized section
+sized : (section : List ℕ) → IsWholeSection section → IsSized section
 sized section is =
     let whole = whole_is section section is.whole in
     record { long = omega (arith, whole.count); count = sym whole.count }
@@ -39,7 +39,7 @@ no_test true b e f = absurd cc
 no_test false b e f = f
 
 -- a front that is not all of a section is no whole one
-pub front_is_cut : (front rest : List ℕ) → IsSection (front ++ rest) → 1 ≤ length rest → whole_section front ≡ None
+pub front_is_cut : (front rest : List ℕ) → IsWholeSection (front ++ rest) → 1 ≤ length rest → whole_section front ≡ None
 front_is_cut front rest is some =
     let size = sized (front ++ rest) is in
     let lengths = length-append front rest in
@@ -53,7 +53,7 @@ front_is_cut front rest is some =
     ap (λ (b : Bool). cond b None (Some (take (section_size front) front))) cut
 
 -- a section is the whole one of the bytes that it begins
-pub section_is_whole : (section rest : List ℕ) → IsSection section
+pub section_is_whole : (section rest : List ℕ) → IsWholeSection section
     → whole_section (section ++ rest) ≡ Some section
 section_is_whole section rest is =
     let size = sized section is in
@@ -70,13 +70,13 @@ section_is_whole section rest is =
 -- ---- the section in hand
 
 -- a front with a further piece that is not the last
-pub piece_grows : (front piece rest : List ℕ) → IsSection ((front ++ piece) ++ rest) → 1 ≤ length rest
+pub piece_grows : (front piece rest : List ℕ) → IsWholeSection ((front ++ piece) ++ rest) → 1 ≤ length rest
     → grown (Some front) piece ≡ record { sections = []; hand = Some (front ++ piece) }
 piece_grows front piece rest is some =
     ap (λ (w : Option (List ℕ)). section_or_hand (front ++ piece) w) (front_is_cut (front ++ piece) rest is some)
 
 -- a front with the last piece, whatever is behind it
-pub piece_ends : (front piece rest : List ℕ) → IsSection (front ++ piece)
+pub piece_ends : (front piece rest : List ℕ) → IsWholeSection (front ++ piece)
     → grown (Some front) (piece ++ rest) ≡ record { sections = (front ++ piece) ∷ []; hand = None }
 piece_ends front piece rest is =
     ap (λ (w : Option (List ℕ)). section_or_hand (front ++ (piece ++ rest)) w)
@@ -102,14 +102,14 @@ front_begins : (byte : ℕ) (front rest : List ℕ) → byte_at 0 ((byte ∷ fro
 front_begins byte front rest named = ap not (ne_eqb byte 255 named)
 
 -- a front of a section that nothing is behind
-pub front_in : (front rest : List ℕ) → IsSection (front ++ rest) → 1 ≤ length front → 1 ≤ length rest
+pub front_in : (front rest : List ℕ) → IsWholeSection (front ++ rest) → 1 ≤ length front → 1 ≤ length rest
     → all_in front ≡ record { sections = []; hand = Some front }
 front_in [] rest is begun some = absurd (omega arith)
 front_in (byte ∷ front) rest is begun some =
     follows_cut (byte ∷ front) (front_begins byte front rest is.named) (front_is_cut (byte ∷ front) rest is some)
 
 -- a section and what is behind it
-section_in : (section rest : List ℕ) → IsSection section
+section_in : (section rest : List ℕ) → IsWholeSection section
     → all_in (section ++ rest)
     ≡ record { sections = section ∷ (all_in rest).sections; hand = (all_in rest).hand }
 section_in [] rest is = absurd (omega (arith, (sized [] is).long))
@@ -120,7 +120,7 @@ section_in (byte ∷ section) rest is =
     (drop-append_seam (byte ∷ section) rest)
 
 -- sections and what is behind them
-pub sections_in : (sections : List (List ℕ)) (rest : List ℕ) → AllByRecursion IsSection sections
+pub sections_in : (sections : List (List ℕ)) (rest : List ℕ) → AllByRecursion IsWholeSection sections
     → all_in (concat sections ++ rest)
     ≡ record { sections = sections ++ (all_in rest).sections; hand = (all_in rest).hand }
 sections_in [] rest all = refl

@@ -3,7 +3,7 @@ use Rattle.std.specs.Prelude.{◌≡◌, ◌≢◌, ℕ, ◌+◌, ◌%◌, ◌�
 use Rattle.std.specs.List.{concat, AllByRecursion}
 use Rattle.stream_syntax.specs.TransportPackets.{pid_of, has_error_flag, has_bad_field, control_of, counter_of}
 use Rattle.section_reader.specs.Sections.{sections_of}
-use Rattle.cut_section_laws.specs.SectionCuts.{Carries, Follows, IsBetween, IsSection, IsStuffing, is_counted, pointed}
+use Rattle.cut_section_laws.specs.SectionCuts.{Carries, HasNextCounter, AddsNothing, IsWholeSection, IsStuffing, is_counted, pointed}
 
 -- behind packets no section has begun that has not ended, or one is open: the bytes of it that these packets carry, and
 -- those that are to come
@@ -15,9 +15,9 @@ pub data Progress : Type 0 where
 -- stuffing, or the front of a section that is open from there on
 pub data Stand : List ℕ → List (List ℕ) → Progress → Type 0 where
   to_the_end : {bytes : List ℕ} {sections : List (List ℕ)} (rest : List ℕ) → bytes ≡ concat sections ++ rest
-      → AllByRecursion IsSection sections → IsStuffing rest → Stand bytes sections Closed
+      → AllByRecursion IsWholeSection sections → IsStuffing rest → Stand bytes sections Closed
   up_to_a_front : {bytes : List ℕ} {sections : List (List ℕ)} (front owed : List ℕ)
-      → bytes ≡ concat sections ++ front → AllByRecursion IsSection sections → IsSection (front ++ owed)
+      → bytes ≡ concat sections ++ front → AllByRecursion IsWholeSection sections → IsWholeSection (front ++ owed)
       → 1 ≤ length front → 1 ≤ length owed → Stand bytes sections (Open front owed)
 
 -- the packet is marked as damaged, or its adaptation_field_control or its adaptation field cannot be
@@ -33,7 +33,7 @@ IsMissing (Some counter) packet = (counter_of packet ≢ counter) × (counter_of
 -- a packet behind one with this counter: what is open before it, the sections that end in it, and what is open behind
 pub data Lays (pid : ℕ) (last : Option ℕ) (packet : List ℕ) : Progress → List (List ℕ) → Progress → Type 0 where
   -- it adds nothing
-  between : {progress : Progress} → IsBetween pid last packet → Lays pid last packet progress [] progress
+  between : {progress : Progress} → AddsNothing pid last packet → Lays pid last packet progress [] progress
   -- no section is open, and none begins
   idle : (bytes : List ℕ) → Carries pid false bytes packet → Lays pid last packet Closed [] Closed
   -- none is open, and here sections begin, behind bytes of one whose beginning is not there
@@ -41,18 +41,19 @@ pub data Lays (pid : ℕ) (last : Option ℕ) (packet : List ℕ) : Progress →
       → last ≢ Some (counter_of packet) → Carries pid true (pointed passed bytes) packet → Stand bytes sections next
       → Lays pid last packet Closed sections next
   -- a whole payload goes on with the open one, and is not the last of it
-  middle : {begun owed : List ℕ} (piece more : List ℕ) → Follows last packet → Carries pid false piece packet
+  middle : {begun owed : List ℕ} (piece more : List ℕ) → HasNextCounter last packet → Carries pid false piece packet
       → owed ≡ piece ++ more → 1 ≤ length more → Lays pid last packet (Open begun owed) [] (Open (begun ++ piece) more)
   -- the front of a payload ends it
-  end : {begun owed : List ℕ} (rest : List ℕ) → Follows last packet → Carries pid false (owed ++ rest) packet
+  end : {begun owed : List ℕ} (rest : List ℕ) → HasNextCounter last packet → Carries pid false (owed ++ rest) packet
       → Lays pid last packet (Open begun owed) ((begun ++ owed) ∷ []) Closed
   -- it ends before the place to which the pointer_field points, and there others begin
   next_ones : {begun owed : List ℕ} {sections : List (List ℕ)} {next : Progress} (rest bytes : List ℕ)
-      → Follows last packet → Carries pid true (pointed (owed ++ rest) bytes) packet → Stand bytes sections next
+      → HasNextCounter last packet → Carries pid true (pointed (owed ++ rest) bytes) packet → Stand bytes sections next
       → Lays pid last packet (Open begun owed) ((begun ++ owed) ∷ sections) next
   -- the place to which the pointer_field points comes before its end: it is lost, and there others begin
   broken_off : {begun owed : List ℕ} {sections : List (List ℕ)} {next : Progress} (passed more bytes : List ℕ)
-      → Follows last packet → Carries pid true (pointed passed bytes) packet → owed ≡ passed ++ more → 1 ≤ length more
+      → HasNextCounter last packet → Carries pid true (pointed passed bytes) packet → owed ≡ passed ++ more
+      → 1 ≤ length more
       → Stand bytes sections next → Lays pid last packet (Open begun owed) sections next
   -- a damaged packet of the PID: the open one is lost
   damaged : {progress : Progress} → pid_of packet ≡ pid → IsDamaged packet → Lays pid last packet progress [] Closed

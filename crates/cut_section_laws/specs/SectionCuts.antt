@@ -11,19 +11,19 @@ use Rattle.section_reader.specs.Sections.{sections_at}
 
 -- one whole section: it has as many bytes as its section_length says, and another table_id than 0xFF, which is
 -- forbidden: stuffing begins with it
-pub record IsSection (section : List ℕ) : Type 0 where
+pub record IsWholeSection (section : List ℕ) : Type 0 where
   pub whole : whole_section section ≡ Some section
   pub named : byte_at 0 section ≢ 0xFF
 
 -- nothing of the packet is damaged: its transport_error_indicator is not set, and its adaptation field ends within it
-pub record IsSound (packet : List ℕ) : Type 0 where
+pub record IsUndamaged (packet : List ℕ) : Type 0 where
   pub unmarked : has_error_flag packet ≡ false
   pub fitting : has_bad_field packet ≡ false
 
 -- a packet of the PID with these bytes as its payload, with payload_unit_start_indicator or without
 pub record Carries (pid : ℕ) (start : Bool) (bytes packet : List ℕ) : Type 0 where
   pub own : pid_of packet ≡ pid
-  pub sound : IsSound packet
+  pub sound : IsUndamaged packet
   pub full : has_payload packet ≡ true
   pub begins : has_start_flag packet ≡ start
   pub payload : payload_of packet ≡ bytes
@@ -48,16 +48,16 @@ counter_before pid (packet ∷ before) =
 
 -- a packet that adds nothing, where the last that counts has this counter: one of another PID, whatever stands in it;
 -- one with an adaptation field alone (adaptation_field_control 2); and a double, which has the same counter
-abbrev pub IsBetween : ℕ → Option ℕ → List ℕ → Type 0
-IsBetween pid last packet =
+abbrev pub AddsNothing : ℕ → Option ℕ → List ℕ → Type 0
+AddsNothing pid last packet =
     (pid_of packet ≢ pid)
-    ⊎ (((pid_of packet ≡ pid) × IsSound packet × (control_of packet ≡ 2))
-    ⊎ ((pid_of packet ≡ pid) × IsSound packet × (has_payload packet ≡ true) × (last ≡ Some (counter_of packet))))
+    ⊎ (((pid_of packet ≡ pid) × IsUndamaged packet × (control_of packet ≡ 2))
+    ⊎ ((pid_of packet ≡ pid) × IsUndamaged packet × (has_payload packet ≡ true) × (last ≡ Some (counter_of packet))))
 
 -- the packet's counter is the next one, modulo 16
-abbrev pub Follows : Option ℕ → List ℕ → Type 0
-Follows None packet = ⊥
-Follows (Some counter) packet = counter_of packet ≡ (counter + 1) % 16
+abbrev pub HasNextCounter : Option ℕ → List ℕ → Type 0
+HasNextCounter None packet = ⊥
+HasNextCounter (Some counter) packet = counter_of packet ≡ (counter + 1) % 16
 
 -- ---- cuts
 
@@ -74,11 +74,11 @@ abbrev pub GoesOn : ℕ → Option ℕ → List (List ℕ) → List (List ℕ) �
 GoesOn pid last pieces [] = ⊥
 GoesOn pid last [] (packet ∷ packets) = ⊥
 GoesOn pid last (piece ∷ []) (packet ∷ packets) =
-    (IsBetween pid last packet × GoesOn pid last (piece ∷ []) packets)
-    ⊎ ((packets ≡ []) × (1 ≤ length piece) × Follows last packet × EndsIn pid piece packet)
+    (AddsNothing pid last packet × GoesOn pid last (piece ∷ []) packets)
+    ⊎ ((packets ≡ []) × (1 ≤ length piece) × HasNextCounter last packet × EndsIn pid piece packet)
 GoesOn pid last (piece ∷ second ∷ pieces) (packet ∷ packets) =
-    (IsBetween pid last packet × GoesOn pid last (piece ∷ second ∷ pieces) packets)
-    ⊎ ((1 ≤ length piece) × Follows last packet × Carries pid false piece packet
+    (AddsNothing pid last packet × GoesOn pid last (piece ∷ second ∷ pieces) packets)
+    ⊎ ((1 ≤ length piece) × HasNextCounter last packet × Carries pid false piece packet
     × GoesOn pid (Some (counter_of packet)) (second ∷ pieces) packets)
 
 -- ---- what comes of them
@@ -98,7 +98,7 @@ IsStuffing bytes = (bytes ≡ []) ⊎ (byte_at 0 bytes ≡ 0xFF)
 -- and before any that stand behind them. Where nothing or stuffing does, no other comes
 abbrev pub WholeInOne : ℕ → Type 0
 WholeInOne pid =
-    (before sections : List (List ℕ)) (packet passed rest : List ℕ) → AllByRecursion IsSection sections
+    (before sections : List (List ℕ)) (packet passed rest : List ℕ) → AllByRecursion IsWholeSection sections
     → counter_before pid before ≢ Some (counter_of packet)
     → Carries pid true (pointed passed (concat sections ++ rest)) packet
     → (ended later : List (List ℕ)) × (length ended ≤ 1) × (IsStuffing rest → later ≡ [])
@@ -109,8 +109,8 @@ WholeInOne pid =
 -- cut: before any that begin there. At the first packet those come that end before it, and at the packets between none
 abbrev pub EveryCutting : ℕ → Type 0
 EveryCutting pid =
-    (before packets earlier pieces : List (List ℕ)) (first passed front section : List ℕ) → IsSection section
-    → section ≡ front ++ concat pieces → 1 ≤ length front → AllByRecursion IsSection earlier
+    (before packets earlier pieces : List (List ℕ)) (first passed front section : List ℕ) → IsWholeSection section
+    → section ≡ front ++ concat pieces → 1 ≤ length front → AllByRecursion IsWholeSection earlier
     → counter_before pid before ≢ Some (counter_of first)
     → Carries pid true (pointed passed (concat earlier ++ front)) first
     → GoesOn pid (Some (counter_of first)) pieces packets
