@@ -2,3 +2,4 @@ pub mod CutPackets
 pub mod LaidPackets
 pub mod SectionsCome
 pub mod WholeSections
+pub mod WrittenPieces

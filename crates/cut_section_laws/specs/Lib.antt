@@ -1,2 +1,3 @@
 pub mod LaidSections
 pub mod SectionCuts
+pub mod WrittenCuts

@@ -1,6 +1,7 @@
-ghost use Rattle.std.specs.Prelude.{ℕ};
+ghost use Rattle.std.specs.Prelude.{ℕ, ◌<◌};
 ghost use Rattle.cut_section_laws.specs.LaidSections.{EveryLaying};
 ghost use Rattle.cut_section_laws.specs.SectionCuts.{EveryCutting, WholeInOne};
+ghost use Rattle.cut_section_laws.specs.WrittenCuts.{EveryWriting};
 
 /// A section that is cut over packets of a PID in any way (ISO/IEC 13818-1, 2.4.4), with packets of
 /// other PIDs, packets without payload and doubles anywhere between, comes out whole, once, at the
@@ -18,4 +19,11 @@ pub fn every_cutting_gives_its_section()
 /// next one begins in. The packets may begin within a section.
 pub fn every_laying_gives_its_sections()
     ensures { (pid : ℕ) → EveryLaying pid }
+{}
+
+/// A section that is written into packets of a PID, a pointer of 0 before its first piece, and
+/// each further piece in a packet behind that, comes out of them, and nothing else does: whatever
+/// section it is, and into whatever pieces it is cut that fit payloads.
+pub fn written_sections_come()
+    ensures { (pid : ℕ) → pid < 8192 → EveryWriting pid }
 {}

@@ -4,4 +4,6 @@
 
 mod laws;
 
-pub use laws::{every_cutting_gives_its_section, every_laying_gives_its_sections};
+pub use laws::{
+    every_cutting_gives_its_section, every_laying_gives_its_sections, written_sections_come,
+};
