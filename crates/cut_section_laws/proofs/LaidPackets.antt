@@ -1,12 +1,12 @@
 -- Sections come out each once and in order, and no others, however they are laid over packets.
 use Rattle.std.proofs.Common.{◌≡◌, ◌≢◌, ◌∙◌, ℕ, ◌+◌, ◌%◌, ◌≤◌, Bool, true, false, cond, ◌||◌, nat_eq, List, [], ◌∷◌, ◌++◌, length, Option, Some, None, refl, sym, ap, subst, inl, inr, append-nil, append_assoc}
-use Rattle.std.proofs.lemmas.Bool.{ne_eqb, eq-eqb}
+use Rattle.std.proofs.lemmas.Bool.{lt-ltb, ne_eqb, eq-eqb}
 use Rattle.stream_syntax.specs.TransportPackets.{pid_of, has_error_flag, has_bad_field, control_of, counter_of}
 use Rattle.stream_syntax.specs.Units.{Succession, Next, Again, Missing, succession}
-use Rattle.section_reader.specs.Sections.{Ended, by_counter, ended_with, hand_behind, is_broken, none_ended, sections_behind, with_payload}
-use Rattle.cut_section_laws.specs.LaidSections.{AreLaid, Closed, EveryLaying, IsDamaged, IsMissing, Lays, Open, Progress, Stand, between, broken_off, damaged, end, first, idle, lost, middle, next_ones, to_the_end, up_to_a_front}
+use Rattle.section_reader.specs.Sections.{Ended, by_counter, ended_with, hand_behind, is_broken, none_ended, sections_behind, started, with_payload}
+use Rattle.cut_section_laws.specs.LaidSections.{AreLaid, Closed, EveryLaying, IsDamaged, IsMispointed, IsMissing, Lays, Open, Progress, Stand, between, broken_off, damaged, end, first, idle, lost, middle, mispointed, next_ones, to_the_end, up_to_a_front}
 use Rattle.cut_section_laws.specs.SectionCuts.{IsWholeSection, counter_before, is_counted, pointed}
-use Rattle.cut_section_laws.proofs.CutPackets.{carried, ends_at, hand_is, next_order, same_counter, stays}
+use Rattle.cut_section_laws.proofs.CutPackets.{carried, ends_at, hand_is, next_order, same_counter, stays, taken}
 use Rattle.cut_section_laws.proofs.WholeSections.{all_in, front_in, nothing_in, piece_ends, piece_grows, pointed_is, sections_in}
 
 -- ---- what is open
@@ -87,6 +87,11 @@ idles Next bytes = refl
 idles Again bytes = refl
 idles (Missing expected found) bytes = refl
 
+-- where it is not said where sections begin
+pub not_started : (hand : Option (List ℕ)) (bytes : List ℕ) → IsMispointed bytes → started hand bytes ≡ none_ended
+not_started hand [] wrong = refl
+not_started hand (pointer ∷ bytes) wrong = rw (lt-ltb (length bytes) pointer wrong) refl
+
 -- ---- damage
 
 is_damaged : (packet : List ℕ) → IsDamaged packet → is_broken packet ≡ true
@@ -109,7 +114,7 @@ is_damaged packet (inr (inr bad)) =
     by false false true e = refl
     by a b false e = absurd cc
 
-breaks : (pid : ℕ) (last : Option ℕ) (hand : Option (List ℕ)) (packet : List ℕ) → pid_of packet ≡ pid
+pub breaks : (pid : ℕ) (last : Option ℕ) (hand : Option (List ℕ)) (packet : List ℕ) → pid_of packet ≡ pid
     → is_broken packet ≡ true → ended_with pid last hand packet ≡ none_ended
 unfolding ended_with
 breaks pid last hand packet own broken =
@@ -190,6 +195,13 @@ module _ (pid : ℕ) where
             }) (piece_grows begun passed more is_section some)
             ∙ behind.are;
         right = behind.right;
+      }
+  step {last} {packet} {progress} (mispointed bytes other is wrong) right =
+      let found = taken (in_hand progress) last true bytes (counter_of packet) other in
+      record {
+        are =
+            carried pid true bytes packet is last (in_hand progress) ∙ found.1 ∙ not_started found.0 bytes wrong;
+        right = tt;
       }
   step {last} {packet} {progress} (damaged own broken) right =
       record { are = breaks pid last (in_hand progress) packet own (is_damaged packet broken); right = tt }

@@ -1,4 +1,6 @@
 pub mod CutPackets
+pub mod EveryStreamLaid
+pub mod Fronts
 pub mod LaidPackets
 pub mod SectionsCome
 pub mod WholeSections

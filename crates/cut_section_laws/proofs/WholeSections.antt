@@ -22,7 +22,7 @@ sized section is =
     record { long = omega (arith, whole.count); count = sym whole.count }
 
 -- the first three bytes say how many there are
-same_size : (front rest : List ℕ) → 3 ≤ length front → section_size (front ++ rest) ≡ section_size front
+pub same_size : (front rest : List ℕ) → 3 ≤ length front → section_size (front ++ rest) ≡ section_size front
 same_size (a ∷ b ∷ c ∷ front) rest long = refl
 same_size front rest long = absurd (omega arith)
 
@@ -34,7 +34,7 @@ second_test : (a b : Bool) → b ≡ true → (a || b) ≡ true
 second_test true b e = refl
 second_test false b e = e
 
-no_test : (a b : Bool) → a ≡ false → b ≡ false → (a || b) ≡ false
+pub no_test : (a b : Bool) → a ≡ false → b ≡ false → (a || b) ≡ false
 no_test true b e f = absurd cc
 no_test false b e f = f
 

@@ -1,5 +1,5 @@
 -- Sections that are laid over the packets of a PID one after another, in any way (ISO/IEC 13818-1, 2.4.4).
-use Rattle.std.specs.Prelude.{◌≡◌, ◌≢◌, ℕ, ◌+◌, ◌%◌, ◌≤◌, ◌⊎◌, Bool, true, false, if◌then◌else◌, List, [], ◌∷◌, ◌++◌, length, Option, Some, None}
+use Rattle.std.specs.Prelude.{◌≡◌, ◌≢◌, ℕ, ◌+◌, ◌%◌, ◌<◌, ◌≤◌, ◌⊎◌, ⊤, Bool, true, false, if◌then◌else◌, List, [], ◌∷◌, ◌++◌, length, Option, Some, None}
 use Rattle.std.specs.List.{concat, AllByRecursion}
 use Rattle.stream_syntax.specs.TransportPackets.{pid_of, has_error_flag, has_bad_field, control_of, counter_of}
 use Rattle.section_reader.specs.Sections.{sections_of}
@@ -30,6 +30,11 @@ abbrev pub IsMissing : Option ℕ → List ℕ → Type 0
 IsMissing None packet = ⊥
 IsMissing (Some counter) packet = (counter_of packet ≢ counter) × (counter_of packet ≢ (counter + 1) % 16)
 
+-- a payload has no pointer_field, or one that points beyond the payload's end
+abbrev pub IsMispointed : List ℕ → Type 0
+IsMispointed [] = ⊤
+IsMispointed (pointer ∷ bytes) = length bytes < pointer
+
 -- a packet behind one with this counter: what is open before it, the sections that end in it, and what is open behind
 pub data Lays (pid : ℕ) (last : Option ℕ) (packet : List ℕ) : Progress → List (List ℕ) → Progress → Type 0 where
   -- it adds nothing
@@ -55,6 +60,9 @@ pub data Lays (pid : ℕ) (last : Option ℕ) (packet : List ℕ) : Progress →
       → HasNextCounter last packet → Carries pid true (pointed passed bytes) packet → owed ≡ passed ++ more
       → 1 ≤ length more
       → Stand bytes sections next → Lays pid last packet (Open begun owed) sections next
+  -- sections ought to begin in it, and it is not said where: nothing of it is taken, and what was open is lost
+  mispointed : {progress : Progress} (bytes : List ℕ) → last ≢ Some (counter_of packet)
+      → Carries pid true bytes packet → IsMispointed bytes → Lays pid last packet progress [] Closed
   -- a damaged packet of the PID: the open one is lost
   damaged : {progress : Progress} → pid_of packet ≡ pid → IsDamaged packet → Lays pid last packet progress [] Closed
   -- packets are missing before it: the open one is lost, and it is as where none is open
@@ -75,3 +83,7 @@ AreLaid pid last progress sections (packet ∷ packets) =
 abbrev pub EveryLaying : ℕ → Type 0
 EveryLaying pid =
     (packets sections : List (List ℕ)) → AreLaid pid None Closed sections packets → sections_of pid packets ≡ sections
+
+-- whatever stands in the packets of a stream, they have such a laying: the sections that come are laid in them
+abbrev pub EveryStream : ℕ → Type 0
+EveryStream pid = (packets : List (List ℕ)) → AreLaid pid None Closed (sections_of pid packets) packets

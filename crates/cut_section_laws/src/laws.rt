@@ -1,5 +1,5 @@
 ghost use Rattle.std.specs.Prelude.{ℕ, ◌<◌};
-ghost use Rattle.cut_section_laws.specs.LaidSections.{EveryLaying};
+ghost use Rattle.cut_section_laws.specs.LaidSections.{EveryLaying, EveryStream};
 ghost use Rattle.cut_section_laws.specs.SectionCuts.{EveryCutting, WholeInOne};
 ghost use Rattle.cut_section_laws.specs.WrittenCuts.{EveryWriting};
 
@@ -15,10 +15,12 @@ pub fn every_cutting_gives_its_section()
 
 /// Sections that are laid over the packets of a stream one after another, in any way (ISO/IEC
 /// 13818-1, 2.4.4), come out each once and in order, and nothing else does: those that end in the
-/// stream without a loss. Lost is a section of which packets are missing or damaged, or that the
-/// next one begins in. The packets may begin within a section.
+/// stream without a loss. Lost is a section of which packets are missing or damaged, or that
+/// another one breaks off. Any packets are such a stream: the sections that come out of them are
+/// laid in them. They may begin within a section.
 pub fn every_laying_gives_its_sections()
-    ensures { (pid : ℕ) → EveryLaying pid }
+    ensures come { (pid : ℕ) → EveryLaying pid }
+    ensures laid { (pid : ℕ) → EveryStream pid }
 {}
 
 /// A section that is written into packets of a PID, a pointer of 0 before its first piece, and
