@@ -5,9 +5,10 @@ ghost use Rattle.cut_section_laws.specs.WrittenCuts.{EveryWriting};
 
 /// A section that is cut over packets of a PID in any way (ISO/IEC 13818-1, 2.4.4), with packets of
 /// other PIDs, packets without payload and doubles anywhere between, comes out whole, once, at the
-/// packet that ends it, whatever was fed before it. Sections that stand whole in one payload, one
-/// behind another, come out at this packet, all of them and in order. The sections that come out
-/// are those that `SectionReader::feed` hands on at each packet.
+/// packet that ends it, whatever was fed before it that does not make its first packet a double.
+/// Sections that stand whole in one payload, one behind another, come out at this packet, all of
+/// them and in order. The sections that come out are those that `SectionReader::feed` hands on at
+/// each packet.
 pub fn every_cutting_gives_its_section()
     ensures whole { (pid : ℕ) → WholeInOne pid }
     ensures cut { (pid : ℕ) → EveryCutting pid }
@@ -16,8 +17,8 @@ pub fn every_cutting_gives_its_section()
 /// Sections that are laid over the packets of a stream one after another, in any way (ISO/IEC
 /// 13818-1, 2.4.4), come out each once and in order, and nothing else does: those that end in the
 /// stream without a loss. Lost is a section of which packets are missing or damaged, or that
-/// another one breaks off. Any packets are such a stream: the sections that come out of them are
-/// laid in them. They may begin within a section.
+/// another one or a wrong pointer breaks off. Any packets are such a stream: the sections that come
+/// out of them are laid in them. They may begin within a section.
 pub fn every_laying_gives_its_sections()
     ensures come { (pid : ℕ) → EveryLaying pid }
     ensures laid { (pid : ℕ) → EveryStream pid }
