@@ -1,0 +1,3 @@
+pub mod LaidSections
+pub mod SectionCuts
+pub mod WrittenCuts
