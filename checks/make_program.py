@@ -25,7 +25,7 @@ TOP = pathlib.Path(__file__).resolve().parent.parent
 SOURCES = ("src", "specs", "proofs")
 # What the proof of a large crate takes of memory, in bytes.
 ROOM = 3 * 2**30
-FIRST_CALL = "25 to 40 minutes on four processors"
+FIRST_CALL = "20 to 40 minutes on four processors"
 
 
 def tell(line):
