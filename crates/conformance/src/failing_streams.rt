@@ -34,7 +34,7 @@ const DUE: usize = 133_480;
 const SENT_LIVE: usize = 200_220;
 
 /// What the tool puts out where nothing fails: so many bytes.
-fn whole_of<R: Threads + Sync + Abort>(
+pub(crate) fn whole_of<R: Threads + Sync + Abort>(
     rt: &R,
     alloc: Global,
     asked: &Asked<'_>,

@@ -1,3 +1,4 @@
+use crate::failing_streams::whole_of;
 use crate::running::{Asked, done, ends_as, reading, run, sound};
 use crate::same::same;
 use samples::first_run::{FIRST_UNIT, FONT, PICTURES, SCRIPT, SECOND_UNIT};
@@ -158,19 +159,6 @@ fn a_script_is_sent_live_for_any_service(rt: HostRuntime) -> Result<(), Fail> {
     )
 }
 
-/// A tool that sends the first run again ends well, with so many bytes.
-fn ends_with<R: Threads + Sync + Abort>(
-    rt: &R,
-    alloc: Global,
-    asked: &Asked<'_>,
-    size: usize,
-) -> Result<(), Fail> {
-    let ended = run(rt, alloc, asked, sound(100_000))?;
-    same(rt, ended.notes.written(), b"done\n".as_slice());
-    same(rt, ended.out.written().len(), size);
-    Ok(())
-}
-
 /// A stream joined with itself has its packets twice.
 #[test]
 fn streams_are_joined_for_any_service(rt: HostRuntime) -> Result<(), Fail> {
@@ -184,7 +172,7 @@ fn streams_are_joined_for_any_service(rt: HostRuntime) -> Result<(), Fail> {
             first: stream.as_slice(),
             second: stream.as_slice(),
         };
-        ends_with(&rt, alloc, &asked, 752)?;
+        let _ = whole_of(&rt, alloc, &asked, 752)?;
     }
     Ok(())
 }
@@ -204,7 +192,7 @@ fn scripts_are_paired_for_any_service(rt: HostRuntime) -> Result<(), Fail> {
             first: SCRIPT.as_bytes(),
             second: SCRIPT.as_bytes(),
         };
-        ends_with(&rt, alloc, &asked, 376)?;
+        let _ = whole_of(&rt, alloc, &asked, 376)?;
     }
     Ok(())
 }
