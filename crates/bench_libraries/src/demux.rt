@@ -23,24 +23,38 @@ struct Outcome {
 
 /// Feeds the stream once.
 pub fn run(rt: &HostRuntime) -> Result<()> {
-    let mut stream = Vec::new(rt.alloc());
-    match env::args(rt)?.nth(2) {
-        Some(path) => stream = fs::read(rt, path.as_str())?,
-        None => make_stream(&mut stream)?,
-    }
+    let fed = feed_stream(rt)?;
+    println!(rt;
+        "packets {} units {} bytes {} losses {}",
+        fed.packets, fed.outcome.units, fed.outcome.bytes, fed.outcome.losses
+    )?;
+    eprintln!(rt; "seconds {}", fed.seconds)?;
+    Ok(())
+}
+
+/// How many packets were fed, what came out of them, and how long that took.
+#[derive(Clone, Copy)]
+struct Fed {
+    packets: usize,
+    outcome: Outcome,
+    seconds: f64,
+}
+
+/// Feeds the packets of the stream.
+fn feed_stream(rt: &HostRuntime) -> Result<Fed> {
+    let stream = match env::args(rt)?.nth(2) {
+        Some(path) => fs::read(rt, path.as_str())?,
+        None => made_stream(rt.alloc())?,
+    };
     let (packets, _) = stream.as_chunks::<188>();
     let start = Instant::now(rt)?;
     let outcome = feed_all(rt.alloc(), packets)?;
     let seconds = start.elapsed(rt)?.as_secs_f64();
-    println!(rt;
-        "packets {} units {} bytes {} losses {}",
-        packets.len(),
-        outcome.units,
-        outcome.bytes,
-        outcome.losses
-    )?;
-    eprintln!(rt; "seconds {seconds}")?;
-    Ok(())
+    Ok(Fed {
+        packets: packets.len(),
+        outcome,
+        seconds,
+    })
 }
 
 /// Feeds the packets one by one.
@@ -67,8 +81,9 @@ fn feed_all(alloc: Global, packets: &[[u8; 188]]) -> Result<Outcome> {
     Ok(outcome)
 }
 
-/// Makes a stream of units of one packet each, with seven null packets behind each.
-fn make_stream(stream: &mut Vec<u8>) -> Result<()> {
+/// A stream of units of one packet each, with seven null packets behind each.
+fn made_stream(alloc: Global) -> Result<Vec<u8>> {
+    let mut stream = Vec::new(alloc);
     let mut packetiser = Packetiser::make(PID);
     let mut packet = [0; 188];
     let mut unit = [0; 184];
@@ -83,5 +98,5 @@ fn make_stream(stream: &mut Vec<u8>) -> Result<()> {
         }
         stream.extend_from_slice(&packet)?;
     }
-    Ok(())
+    Ok(stream)
 }

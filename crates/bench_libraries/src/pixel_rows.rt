@@ -12,6 +12,7 @@ use cue_list::Script;
 use indexed_picture::Indexed;
 use pixel_codes::check_block;
 use set_coder::write_fields;
+use std::alloc::Global;
 use std::env;
 use std::fs::File;
 use std::io::Read;
@@ -52,39 +53,75 @@ fn measure_letters(rt: &HostRuntime, times: u32) -> Result<()> {
 /// Codes and reads pictures, one after another, so many times.
 fn measure(rt: &HostRuntime, pictures: &[Indexed], times: u32) -> Result<()> {
     let depth = pictures.first().context("there is no picture")?.depth();
-    let mut tops = Vec::new(rt.alloc());
-    let mut bytes = 0usize;
-    let mut sides = 0u64;
-    for picture in pictures {
-        ensure!(picture.depth() == depth, "pictures have different depths");
-        let mut out = Vec::new(rt.alloc());
-        let lengths = write_fields(picture, picture.depth(), &mut out)?;
-        bytes = bytes.wrapping_add(out.len());
-        sides = sides.wrapping_add(u64::from(picture.width()) * u64::from(picture.height()));
-        out.truncate(lengths.top as usize);
-        ensure!(out.len() <= 65_535, "a top block is too long");
-        tops.push(out)?;
-    }
-    let mut out = Vec::new(rt.alloc());
-    let start = Instant::now(rt)?;
-    for _ in 0..times {
-        for picture in pictures {
-            out.clear();
-            let _lengths = write_fields(picture, picture.depth(), &mut out)?;
-        }
-    }
-    let written = rate(sides, times, start.elapsed(rt)?.as_micros());
-    let mut pixels = 0;
-    let start = Instant::now(rt)?;
-    for _ in 0..times {
-        pixels = pixels_in(tops.as_slice(), depth)?;
-    }
-    let read = rate(pixels, times, start.elapsed(rt)?.as_micros());
+    let (bytes, written) = written(rt, pictures, depth, times)?;
+    let (pixels, read) = read(rt, pictures, depth, times)?;
     println!(rt; "{depth:?}: {bytes} bytes, {pixels} pixels in the top field")?;
     eprintln!(rt;
         "{depth:?}: {bytes} bytes, {written} million pixels a second written, {read} read"
     )?;
     Ok(())
+}
+
+/// The bytes of both fields of all pictures, and how many million pixels a second are coded.
+fn written(
+    rt: &HostRuntime,
+    pictures: &[Indexed],
+    depth: Depth,
+    times: u32,
+) -> Result<(usize, u128)> {
+    let mut out = Vec::new(rt.alloc());
+    let mut bytes = 0usize;
+    let mut pixels = 0u64;
+    for picture in pictures {
+        ensure!(picture.depth() == depth, "pictures have different depths");
+        out.clear();
+        let _lengths = write_fields(picture, picture.depth(), &mut out)?;
+        bytes = bytes.wrapping_add(out.len());
+        pixels = pixels.wrapping_add(u64::from(picture.width()) * u64::from(picture.height()));
+    }
+    let start = Instant::now(rt)?;
+    write_times(pictures, &mut out, times)?;
+    let micros = start.elapsed(rt)?.as_micros();
+    Ok((bytes, rate(pixels, times, micros)))
+}
+
+/// Codes pictures, one after another, so many times.
+fn write_times(pictures: &[Indexed], out: &mut Vec<u8>, times: u32) -> Result<()> {
+    for _ in 0..times {
+        for picture in pictures {
+            out.clear();
+            let _lengths = write_fields(picture, picture.depth(), out)?;
+        }
+    }
+    Ok(())
+}
+
+/// The pixels in the top fields of all pictures, and how many million of them a second are read.
+fn read(rt: &HostRuntime, pictures: &[Indexed], depth: Depth, times: u32) -> Result<(u64, u128)> {
+    let tops = top_fields(rt.alloc(), pictures)?;
+    let mut pixels = 0;
+    let start = Instant::now(rt)?;
+    for _ in 0..times {
+        pixels = pixels_in(tops.as_slice(), depth)?;
+    }
+    let micros = start.elapsed(rt)?.as_micros();
+    Ok((pixels, rate(pixels, times, micros)))
+}
+
+/// The blocks of the pictures' top fields.
+fn top_fields(alloc: Global, pictures: &[Indexed]) -> Result<Vec<Vec<u8>>> {
+    let mut tops = Vec::new(alloc);
+    for picture in pictures {
+        tops.push(top_field(alloc, picture)?)?;
+    }
+    Ok(tops)
+}
+
+fn top_field(alloc: Global, picture: &Indexed) -> Result<Vec<u8>> {
+    let mut out = Vec::new(alloc);
+    let lengths = write_fields(picture, picture.depth(), &mut out)?;
+    out.truncate(lengths.top as usize);
+    Ok(out)
 }
 
 /// How many pixels the runs of blocks draw.

@@ -26,36 +26,76 @@ pub fn run(rt: &HostRuntime) -> Result<()> {
 
 /// Paints and fills a region of that depth so many times.
 fn measure(rt: &HostRuntime, depth: Depth, times: u32) -> Result<()> {
-    let bytes = u64::from(WIDTH) * u64::from(HEIGHT) * u64::from(depth.bits()) / 8;
-    let mut store = Store::make(rt.alloc(), bytes)?;
-    let slot = store.place(WIDTH, HEIGHT, depth)?;
     for length in [3, 30, 300] {
-        let start = Instant::now(rt)?;
-        paint_times(&mut store, slot, length, times);
-        let painted = rate(times, start.elapsed(rt)?.as_micros());
+        let painted = measure_runs(rt, depth, times, length)?;
         println!(rt;
             "{depth:?}: runs of {length}, {} pixels of code 1",
-            ones(&store, slot)
+            painted.ones
         )?;
-        eprintln!(rt; "{depth:?}: runs of {length}, {painted} million pixels a second")?;
+        eprintln!(rt;
+            "{depth:?}: runs of {length}, {} million pixels a second",
+            painted.rate
+        )?;
     }
+    let filled = measure_fill(rt, depth, times)?;
+    println!(rt; "{depth:?}: filled, {} pixels of code 1", filled.ones)?;
+    let bare = rate_of_bytes(rt, depth, times)?;
+    println!(rt; "{depth:?}: {} bytes", bytes_of(depth))?;
+    eprintln!(rt;
+        "{depth:?}: filled, {} million pixels a second; plain bytes, {bare}",
+        filled.rate
+    )?;
+    Ok(())
+}
+
+/// How fast a region was painted, in million pixels a second, and how many of them have code 1.
+#[derive(Clone, Copy)]
+struct Painted {
+    rate: u128,
+    ones: u32,
+}
+
+/// How many bytes the pixels of a region of that depth take.
+fn bytes_of(depth: Depth) -> u64 {
+    u64::from(WIDTH) * u64::from(HEIGHT) * u64::from(depth.bits()) / 8
+}
+
+/// Paints a region with runs of that length.
+fn measure_runs(rt: &HostRuntime, depth: Depth, times: u32, length: u32) -> Result<Painted> {
+    let mut store = Store::make(rt.alloc(), bytes_of(depth))?;
+    let slot = store.place(WIDTH, HEIGHT, depth)?;
+    let start = Instant::now(rt)?;
+    paint_times(&mut store, slot, length, times);
+    let micros = start.elapsed(rt)?.as_micros();
+    Ok(Painted {
+        rate: rate(times, micros),
+        ones: ones(&store, slot),
+    })
+}
+
+/// Fills a region, the last time with code 1.
+fn measure_fill(rt: &HostRuntime, depth: Depth, times: u32) -> Result<Painted> {
+    let mut store = Store::make(rt.alloc(), bytes_of(depth))?;
+    let slot = store.place(WIDTH, HEIGHT, depth)?;
     let start = Instant::now(rt)?;
     fill_times(&mut store, slot, times);
-    let filled = rate(times, start.elapsed(rt)?.as_micros());
+    let micros = start.elapsed(rt)?.as_micros();
     fill_region(&mut store, slot, 1);
-    println!(rt;
-        "{depth:?}: filled, {} pixels of code 1",
-        ones(&store, slot)
-    )?;
-    let mut plain = zeros(rt.alloc(), bytes as usize)?;
+    Ok(Painted {
+        rate: rate(times, micros),
+        ones: ones(&store, slot),
+    })
+}
+
+/// How fast as many plain bytes are filled, in million pixels a second.
+fn rate_of_bytes(rt: &HostRuntime, depth: Depth, times: u32) -> Result<u128> {
+    let mut plain = zeros(rt.alloc(), bytes_of(depth) as usize)?;
     let start = Instant::now(rt)?;
     for time in 0..times {
         fill_plain(&mut plain, (time % 2) as u8);
     }
-    let bare = rate(times, start.elapsed(rt)?.as_micros());
-    println!(rt; "{depth:?}: {} bytes", plain.len())?;
-    eprintln!(rt; "{depth:?}: filled, {filled} million pixels a second; plain bytes, {bare}")?;
-    Ok(())
+    let micros = start.elapsed(rt)?.as_micros();
+    Ok(rate(times, micros))
 }
 
 /// Paints all rows so many times.

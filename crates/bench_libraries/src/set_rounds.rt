@@ -108,13 +108,24 @@ fn read_with_runs(rt: &HostRuntime, sets: &[Vec<u8>], times: u32) -> Result<()> 
 
 /// Takes sets and shows nothing.
 fn take_alone(rt: &HostRuntime, profile: ProfileName, sets: &[Vec<u8>], times: u32) -> Result<()> {
-    let mut core = empty_core(rt.alloc(), profile)?;
-    let start = Instant::now(rt)?;
-    let shown = take_sets(&mut core, sets, times);
-    let rate = rate(shown, start.elapsed(rt)?.as_micros());
+    let (shown, rate) = taken(rt, profile, sets, times)?;
     println!(rt; "{shown} shown")?;
     eprintln!(rt; "{rate} sets a second taken")?;
     Ok(())
+}
+
+/// How many sets were shown, and how many a second.
+fn taken(
+    rt: &HostRuntime,
+    profile: ProfileName,
+    sets: &[Vec<u8>],
+    times: u32,
+) -> Result<(u32, u128)> {
+    let mut core = empty_core(rt.alloc(), profile)?;
+    let start = Instant::now(rt)?;
+    let shown = take_sets(&mut core, sets, times);
+    let micros = start.elapsed(rt)?.as_micros();
+    Ok((shown, rate(shown, micros)))
 }
 
 /// Takes sets, and makes all rows of the display behind each.
@@ -124,17 +135,40 @@ fn take_with_rows(
     sets: &[Vec<u8>],
     times: u32,
 ) -> Result<()> {
+    let drawn = draw_sets(rt, profile, sets, times)?;
+    eprintln!(rt; "{} sets a second taken and drawn", drawn.rate)?;
+    println!(rt; "{} shown, rows that give {}", drawn.shown, drawn.sum)?;
+    Ok(())
+}
+
+/// How many sets were shown, how many a second, and what the rows of one more give.
+#[derive(Clone, Copy)]
+struct Drawn {
+    shown: u32,
+    rate: u128,
+    sum: u64,
+}
+
+/// Takes and draws sets.
+fn draw_sets(
+    rt: &HostRuntime,
+    profile: ProfileName,
+    sets: &[Vec<u8>],
+    times: u32,
+) -> Result<Drawn> {
     let mut core = empty_core(rt.alloc(), profile)?;
     let mut row = clear_row(rt.alloc(), COLUMNS)?;
     let start = Instant::now(rt)?;
     let shown = take_and_draw(&mut core, sets, times, row.as_mut_slice());
-    let rate = rate(shown, start.elapsed(rt)?.as_micros());
+    let micros = start.elapsed(rt)?.as_micros();
     let sum = sum_of_rows(&mut core, sets, times, row.as_mut_slice()).context(
         "a set is not shown",
     )?;
-    println!(rt; "{shown} shown, rows that give {sum}")?;
-    eprintln!(rt; "{rate} sets a second taken and drawn")?;
-    Ok(())
+    Ok(Drawn {
+        shown,
+        rate: rate(shown, micros),
+        sum,
+    })
 }
 
 /// A core that was handed nothing.
