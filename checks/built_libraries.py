@@ -32,20 +32,34 @@ def load(name, module):
     return made
 
 
-def crates_within(crates, names):
+def kit():
+    """The kit's `rt`, told of what a verdict rests on beside the text: what HANDLES allows."""
+    sys.dont_write_bytecode = True
+    sys.path.insert(0, str(KIT))
+    os.chdir(TOP)
+    rt = load("rt", "rt_of_the_kit")
+    rt.Crate.allowed = rt.handles_of(str(TOP))
+    # Both go over all crates below, and over what these stand on once more.
+    rt.Crate.stamp = functools.lru_cache(maxsize=None)(rt.Crate.stamp)
+    rt.Crate.below = functools.lru_cache(maxsize=None)(rt.Crate.below)
+    return rt
+
+
+def crates_within(rt, names):
     """The crates of these names and those that they stand on, the lowest first; all where no name is given."""
+    crates = rt.crates_of(str(TOP))
     wanted = {below.name for it in crates if it.name in names for below in [it, *it.below()]}
     return [it for it in crates if not names or it.name in wanted]
 
 
 def kept_of(kept, crates):
-    """The crates of which an earlier run has kept what stands here, each with the key under which it is; and the names of the others."""
+    """The crates of which an earlier run has kept what stands here, each with the key under which it is; and the others."""
     keys, lacking = [], []
     for crate in crates:
-        key = None if any(below.name in lacking for below in crate.below()) else kept.key(crate)
+        key = None if any(below in lacking for below in crate.below()) else kept.key(crate)
         place = key and pathlib.Path(kept.place(crate, False, key), "made.json")
         if not place or not place.is_file():
-            lacking.append(crate.name)
+            lacking.append(crate)
             continue
         keys.append((crate, key))
         # The sum of the library as it was built, which the keys of those above it need.
@@ -54,43 +68,31 @@ def kept_of(kept, crates):
     return keys, lacking
 
 
-def bring(names):
-    """Puts what is kept of the crates of these names, and of those below them, into this copy; of all where no name is given. Answers how many crates
-    these are, and the names of those of which nothing is kept."""
-    sys.dont_write_bytecode = True
-    sys.path.insert(0, str(KIT))
-    os.chdir(TOP)
-    rt = load("rt", "rt_of_the_kit")
-    # What a verdict rests on beside the text: the kit, and what HANDLES allows.
-    rt.Crate.allowed = rt.handles_of(str(TOP))
-    rt.Crate.stamp = functools.lru_cache(maxsize=None)(rt.Crate.stamp)
-    crates = crates_within(rt.crates_of(str(TOP)), names)
+def note_built(crate):
+    """Has `rt` take the library in the crate's out/ for built of the text that stands here."""
+    pathlib.Path(crate.folder, "out", "rlib", "stamp").write_text(crate.stamp(), encoding="utf-8")
+
+
+def bring(rt, crates):
+    """Puts what is kept of these crates into this copy, and answers those of which nothing is kept."""
     if not os.path.isdir(rt.STORE):
-        return len(crates), [it.name for it in crates]
+        return crates
     kept = rt.Kept(crates)
     keys, lacking = kept_of(kept, crates)
     for crate, key in keys:
-        library = f"{crate.folder}/out/rlib"
-        shutil.rmtree(library, ignore_errors=True)
+        shutil.rmtree(f"{crate.folder}/out/rlib", ignore_errors=True)
         if not kept.give(crate, False, key):
-            lacking.append(crate.name)
+            lacking.append(crate)
         elif not crate.is_program:
-            pathlib.Path(library, "stamp").write_text(crate.stamp(), encoding="utf-8")
-    return len(crates), lacking
-
-
-def takes_kept(program):
-    """Takes a program, and the crates that it stands on, from what runs of `rt ci` on this machine have kept of these very files. Answers whether all of it
-    was there: else the crates that were not are still to be proved, which are all of them where the kit keeps nothing, or in another way."""
-    try:
-        return not bring([program])[1]
-    except (OSError, AttributeError, TypeError, KeyError, ValueError, ImportError, SystemExit):
-        return False
+            note_built(crate)
+    return lacking
 
 
 def main():
-    count, lacking = bring([])
-    print(f"{count - len(lacking)} of {count} crates are there" + (f"; not kept: {' '.join(lacking)}" if lacking else ""))
+    rt = kit()
+    crates = crates_within(rt, [])
+    lacking = [it.name for it in bring(rt, crates)]
+    print(f"{len(crates) - len(lacking)} of {len(crates)} crates are there" + (f"; not kept: {' '.join(lacking)}" if lacking else ""))
 
 
 if __name__ == "__main__":
