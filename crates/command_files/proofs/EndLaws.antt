@@ -1,8 +1,8 @@
 -- The code of a command over files, by how its output and its line ended.
-use Rattle.std.proofs.Common.{◌≡◌, ◌⊎◌, inl, inr, ℕ, Bool, true, false, true≢false, List, Option, Some, None, refl, sym, ◌∙◌, subst, ap, arith, ◌&&◌, not, if◌then◌else◌}
+use Rattle.std.proofs.Common.{◌≡◌, ◌⊎◌, inl, inr, ℕ, Bool, true, List, Option, Some, None, refl, sym, ◌∙◌, subst, ap, arith}
 use Rattle.program_files.specs.Keeping.{is_kept}
+use Rattle.program_files.proofs.KeepingLaws.{done_kept, kept_or_lost, usage_unkept}
 use Rattle.program_files.specs.declared.keeping.OutputKind.{OutputKind}
-use Rattle.program_files.specs.declared.keeping.OutputKind.TheVariants as output
 use Rattle.sub_base.specs.Endpoints.{Received}
 use Rattle.sub_base.specs.Seen.{Seen}
 use Rattle.dvbsub_words.specs.Command.{command_of}
@@ -28,13 +28,6 @@ told_code before now run code (answer, inr front, eq) = inr (eq ∙ ap code_of f
 abbrev pub IsCodeOf : OutputKind → Bool → Status → ℕ → Type 0
 IsCodeOf kind has_written run code =
     (code ≡ code_of run) ⊎ ((is_kept kind has_written (code_of run) ≡ true) × (code ≡ 6))
-
--- what was done is kept in every kind of output
-done_kept : (kind : OutputKind) (has_written : Bool) → is_kept kind has_written 0 ≡ true
-done_kept output.Whole has_written = refl
-done_kept output.Told has_written = refl
-done_kept output.Tool true = refl
-done_kept output.Tool false = refl
 
 -- where the line could not be written
 pub untold_code : (kind : OutputKind) (has_written : Bool) (run : Status)
@@ -75,13 +68,6 @@ notes_told kind has_written before now run answer code (inl whole) given =
 notes_told kind has_written before now run answer code (inr front) given =
     untold_stays kind has_written run code (subst (λ end. IsCodeOf kind has_written end code) front.2 given)
 
--- one of two values is taken, and which
-chosen : {A : Type 0} (kept finished : Bool) (lost same end : A) → end ≡ (if kept && not finished then lost else same)
-    → (end ≡ same) ⊎ ((kept ≡ true) × (end ≡ lost))
-chosen true false lost same end eq = inr (refl, eq)
-chosen true true lost same end eq = inl eq
-chosen false finished lost same end eq = inl eq
-
 -- nor do the end of its output and the line of the program
 by_end : (kind : OutputKind) (has_written : Bool) (run ending : Status) (code : ℕ)
     → (ending ≡ run) ⊎ ((is_kept kind has_written (code_of run) ≡ true) × (ending ≡ unkept))
@@ -99,7 +85,7 @@ ending_told : (kind : OutputKind) (has_written is_finished : Bool) (run ending :
     → IsCodeOf kind has_written run code
 ending_told kind has_written is_finished run ending code end =
     by_end kind has_written run ending code
-    (chosen (is_kept kind has_written (code_of run)) is_finished unkept run ending end)
+    (kept_or_lost (is_kept kind has_written (code_of run)) is_finished unkept run ending end)
 
 -- ---- the whole command
 
@@ -139,13 +125,6 @@ has_code words code end = (
 )
 
 -- ---- wrong words
-
--- no output is kept with the status of wrong words
-usage_unkept : (kind : OutputKind) (has_written : Bool) → is_kept kind has_written 2 ≡ true → ⊥
-usage_unkept output.Whole has_written kept = absurd (true≢false (sym kept))
-usage_unkept output.Told has_written kept = absurd (true≢false (sym kept))
-usage_unkept output.Tool true kept = absurd (true≢false (sym kept))
-usage_unkept output.Tool false kept = absurd (true≢false (sym kept))
 
 usage_code : (words : List (List ℕ)) (run : Status) (code : ℕ) → run ≡ status.Usage
     → (code ≡ code_of run) ⊎ (IsKeptWith words run × (code ≡ 6)) → code ≡ 2

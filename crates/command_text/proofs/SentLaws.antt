@@ -34,7 +34,7 @@ Sent-more start now pending bytes packet sent =
           ∙ ap (λ k. k ++ packet) sent.whole;
     }
 
--- a front of what was to be written next was written: then a front of all bytes was, whatever follows
+-- a prefix of what was to be written next was written: then a prefix of all bytes was, whatever follows
 pub Sent-front : (start now next : Option (List ℕ)) (pending bytes rest all : List ℕ)
     → Sent start now pending bytes → AppendsPrefix now next pending → bytes ++ rest ≡ all
     → AppendsPrefix start next all

@@ -209,7 +209,7 @@ impl Reader {
         let cue = cue_cells(row, self.origin)?;
         let picture = self.cue_picture(font, cue, text_cell(row, 8))?;
         self.ticks.add_both(cue.placing.start, cue.placing.end)?;
-        // Limits keep the pictures at 5,120 at most.
+        // Limits keep the pictures at 8,192 at most.
         let place = self.pictures.len() as u32;
         add_cue(
             &mut self.epoch,

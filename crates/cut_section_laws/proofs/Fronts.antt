@@ -13,7 +13,7 @@ use Rattle.cut_section_laws.specs.LaidSections.{Closed, Open, Progress, Stand, t
 use Rattle.cut_section_laws.specs.SectionCuts.{IsWholeSection}
 use Rattle.cut_section_laws.proofs.WholeSections.{no_test, same_size}
 
--- ---- fronts
+-- ---- prefixes
 
 pub record IsFront (bytes : List ℕ) : Type 0 where
   pub named : byte_at 0 bytes ≢ 255
@@ -41,7 +41,7 @@ cut_is false all e = absurd cc
 too_few : (count size : ℕ) → (nat_lt count 3 || nat_lt count size) ≡ true → 3 ≤ count → count < size
 too_few count size e long = grind (arith, nat_tests)
 
--- a front that says how many bytes there are to be has fewer
+-- a prefix that says how many bytes there are to be has fewer
 says_more : (front : List ℕ) → IsFront front → 3 ≤ length front → length front < section_size front
 says_more front is long =
     too_few (length front) (section_size front)
@@ -125,7 +125,7 @@ splits bytes section named found =
       long = long;
     }
 
--- ---- a front with more bytes
+-- ---- a prefix with more bytes
 
 -- bytes before a seam are those of both sides
 seam : (front section more rest : List ℕ) → front ++ more ≡ section ++ rest → length front ≤ length section

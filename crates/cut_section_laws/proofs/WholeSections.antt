@@ -38,7 +38,7 @@ pub no_test : (a b : Bool) → a ≡ false → b ≡ false → (a || b) ≡ fals
 no_test true b e f = absurd cc
 no_test false b e f = f
 
--- a front that is not all of a section is no whole one
+-- a prefix that is not all of a section is no whole one
 pub front_is_cut : (front rest : List ℕ) → IsWholeSection (front ++ rest) → 1 ≤ length rest → whole_section front ≡ None
 front_is_cut front rest is some =
     let size = sized (front ++ rest) is in
@@ -69,13 +69,13 @@ section_is_whole section rest is =
 
 -- ---- the section in hand
 
--- a front with a further piece that is not the last
+-- a prefix with a further piece that is not the last
 pub piece_grows : (front piece rest : List ℕ) → IsWholeSection ((front ++ piece) ++ rest) → 1 ≤ length rest
     → grown (Some front) piece ≡ record { sections = []; hand = Some (front ++ piece) }
 piece_grows front piece rest is some =
     ap (λ (w : Option (List ℕ)). section_or_hand (front ++ piece) w) (front_is_cut (front ++ piece) rest is some)
 
--- a front with the last piece, whatever is behind it
+-- a prefix with the last piece, whatever is behind it
 pub piece_ends : (front piece rest : List ℕ) → IsWholeSection (front ++ piece)
     → grown (Some front) (piece ++ rest) ≡ record { sections = (front ++ piece) ∷ []; hand = None }
 piece_ends front piece rest is =
@@ -101,7 +101,7 @@ front_begins : (byte : ℕ) (front rest : List ℕ) → byte_at 0 ((byte ∷ fro
     → not (nat_eq byte 255) ≡ true
 front_begins byte front rest named = ap not (ne_eqb byte 255 named)
 
--- a front of a section that nothing is behind
+-- a prefix of a section that nothing is behind
 pub front_in : (front rest : List ℕ) → IsWholeSection (front ++ rest) → 1 ≤ length front → 1 ≤ length rest
     → all_in front ≡ record { sections = []; hand = Some front }
 front_in [] rest is begun some = absurd (omega arith)

@@ -162,7 +162,7 @@ frames-append (one ∷ xs) ys =
     ap (λ rest. one.frames ++ rest) (frames-append xs ys)
     ∙ sym (append_assoc one.frames (frames_in xs) (frames_in ys))
 
--- where a front is found, it passes
+-- where a prefix is found, it passes
 pub found_passes : {X : Type 0} (test : X → Bool) (xs : List X) (found : X) → find test xs ≡ Some found
     → test found ≡ true
 found_passes test [] found e = absurd (cc)
@@ -173,7 +173,7 @@ found_passes {X} test (x ∷ xs) found e = by (test x) refl (found_passes test x
     by true is again e = let same : x ≡ found = cc in ap test (sym same) ∙ is
     by false is again e = again e
 
--- and it is a front
+-- and it is a prefix
 pub found_is_front : {X : Type 0} (test : List X → Bool) (xs front : List X)
     → find test (prefixes xs) ≡ Some front → (rest : List X) × (xs ≡ front ++ rest)
 found_is_front test [] front e = absurd (cc)

@@ -140,7 +140,7 @@ abbrev pub EndLast : List Frame → Type 0
 EndLast frames = (before after : List Frame) (one : Frame) → frames ≡ before ++ one ∷ after → is_end one ≡ true
     → after ≡ []
 
--- where a front is the first that passes, what it begins with passes only where that is all of it
+-- where a prefix is the first that passes, what it begins with passes only where that is all of it
 first_passes : {X : Type 0} (test : List X → Bool) (xs front before after : List X) (x : X)
     → find test (prefixes xs) ≡ Some front → front ≡ before ++ x ∷ after → test (before ++ x ∷ []) ≡ true
     → after ≡ []

@@ -20,7 +20,7 @@ pub written_whole : (start mid now : Received) (made put ended : Buffered) (text
 written_whole start mid now made put ended text is_fresh puts flushes well empty =
     written_all start now ended text (put_all start mid now made put ended text is_fresh puts flushes) well empty
 
--- the sink failed: it has a front of the text, and its count rose
+-- the sink failed: it has a prefix of the text, and its count rose
 pub written_front : (start mid now : Received) (made put ended : Buffered) (text : List ℕ) → made ≡ fresh
     → PutsOut start mid made put text → PutsOut mid now put ended [] →
     ended.failed ≡ true → AppendsPrefix start.written now.written text × HasRisen start.faults now.faults

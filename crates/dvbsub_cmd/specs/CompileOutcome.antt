@@ -32,7 +32,7 @@ pub record ShowsScript (profile : ProfileName) (pid page : ℕ) (has_font : Bool
   pub compiles : Compiles profile pid page has_font before now packets
   pub written : Appends before.out.written now.out.written packets
 
--- the output could not be written: it received a front of the packets, and its count of faults rose
+-- the output could not be written: it received a prefix of the packets, and its count of faults rose
 abbrev pub IsCutOff : ProfileName → ℕ → ℕ → Bool → Seen → Seen → Which → Type 0
 IsCutOff profile pid page has_font before now which.Out =
     (packets : List ℕ) × Compiles profile pid page has_font before now packets

@@ -32,7 +32,7 @@ pub record Expects (has_font : Bool) (ticks : List ℕ) (before now : Seen) (tex
   pub reads : ReadsScript has_font before.first now.first before.second now.second script
   pub whole : text ≡ expect_text script ticks
 
--- the output could not be written: it received a front of the texts, and its count of faults rose
+-- the output could not be written: it received a prefix of the texts, and its count of faults rose
 abbrev pub IsCutOff : Bool → List ℕ → Seen → Seen → Which → Type 0
 IsCutOff has_font ticks before now which.Out =
     (text : List ℕ) × Expects has_font ticks before now text × AppendsPrefix before.out.written now.out.written text

@@ -10,7 +10,7 @@ use Rattle.dvbsub_cmd.specs.declared.status.Status.TheVariants as status
 use Rattle.sub_base.specs.declared.status.Which.{Which}
 use Rattle.sub_base.specs.declared.status.Which.TheVariants as which
 
--- the output could not be written: it received a front of the text, and its count of faults rose
+-- the output could not be written: it received a prefix of the text, and its count of faults rose
 abbrev pub IsCutOff : ℕ → ProfileName → Received → Received → Which → Type 0
 IsCutOff number profile before now which.Out =
     (text : List ℕ) × IsGenText number profile text × AppendsPrefix before.written now.written text

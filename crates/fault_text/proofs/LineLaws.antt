@@ -60,7 +60,7 @@ outside_are standing memory shows (entry ∷ entries) =
     by true = refl
     by false = refl
 
--- ---- fronts
+-- ---- prefixes
 
 pub front_none : (shown : Received) (buffer : Buffered) (whole : List ℕ)
     → PutsFront shown shown buffer buffer whole whole
@@ -85,7 +85,7 @@ front_whole before now was is whole left none front =
     subst (λ (text : List ℕ). PutsOut before now was is text)
     (sym (front.joined ∙ ap (λ (rest : List ℕ). front.told ++ rest) none ∙ append-nil front.told)) front.out
 
--- the rest behind a front
+-- the rest behind a prefix
 pub front_then : (a b c : Received) (was between is : Buffered) (whole left : List ℕ)
     → PutsFront a b was between whole left → PutsOut b c between is left → PutsOut a c was is whole
 front_then a b c was between is whole left front out =
@@ -207,7 +207,7 @@ parts front d e f g h i l =
     (sym (append_assoc front (d ++ e) f)
     ∙ ap (λ (t : List ℕ). t ++ f) (sym (append_assoc front d e))))))
 
--- a front and a rest of it
+-- a prefix and a rest of it
 pub tally_out : (tally : Tally) (sets : ℕ) (front rest : List ℕ) (a b c : Received) (was half is : Buffered)
     → sets ≡ set_count tally
     → front ≡ codes "sets" ++ then_number sets ++ codes " shown" ++ then_number tally.shown ++ codes " waiting"

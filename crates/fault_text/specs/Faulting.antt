@@ -137,7 +137,7 @@ outside_lines memory (entry ∷ entries) =
     if is_outside_in memory entry then outside_line entry ∷ outside_lines memory entries
     else outside_lines memory entries
 
--- of what is to be told a front was put out, and this is left
+-- of what is to be told a prefix was put out, and this is left
 pub record PutsFront (before now : Received) (was is : Buffered) (whole left : List ℕ) : Type 0 where
   pub told : List ℕ
   pub out : PutsOut before now was is told

@@ -18,7 +18,8 @@ use Rattle.level_text.specs.ClockText.{IsClockText, at_ticks, from_first}
 use Rattle.level_text.specs.Clocking.{Clocking, FinishesClocked, HasClocked, Holds, IsClocking, TakesSampled}
 use Rattle.level_text.specs.Held.{AreHeld, AreRightPackets, IsRun, IsRightPacket, held_of, held_with}
 use Rattle.level_text.specs.declared.held.HeldPacket.{HeldPacket}
-use Rattle.level_text.proofs.AnchorLaws.{timed_both, told_so_far}
+use Rattle.level_text.proofs.AnchorEndLaws.{told_so_far}
+use Rattle.level_text.proofs.AnchorLaws.{timed_both}
 use Rattle.level_text.proofs.HeldLaws.{held_before, one_more_held}
 
 -- ---- before the first packet

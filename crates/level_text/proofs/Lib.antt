@@ -1,3 +1,4 @@
+pub mod AnchorEndLaws
 pub mod AnchorLaws
 pub mod ClockLaws
 pub mod FollowLaws

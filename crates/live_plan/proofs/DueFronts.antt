@@ -121,7 +121,7 @@ step_of inserter = (pace_of 0 (profile_of inserter.profile)).step
 abbrev origin_of : Inserter → List RowOrTick → ℕ
 origin_of inserter past = (looking_back inserter.font (nearest_in past)).origin
 
--- a front of bytes goes on
+-- a prefix of bytes goes on
 abbrev Begins : List ℕ → List ℕ → Type 0
 Begins front bytes = (more : List ℕ) × (bytes ≡ front ++ more)
 
@@ -187,7 +187,7 @@ nothing_begins inserter past time packets now none =
 
 -- ---- one row or tick more
 
--- what is due for the last tick is a front of the next batch
+-- what is due for the last tick is a prefix of the next batch
 record GoesOn (inserter : Inserter) (past : List RowOrTick) (taken : RowOrTick) (time : ℕ)
     (packets now : List ℕ) : Type 0 where
   begins : Begins (due_front inserter past time packets) now
@@ -252,7 +252,7 @@ record Stands (inserter : Inserter) (past later : List RowOrTick) (time : ℕ) (
   begins : Begins due now
   origin : (due ≡ []) ⊎ (origin_of inserter later ≡ origin_of inserter past)
 
--- a front that a front begins with
+-- a prefix that a prefix begins with
 front_of_front : (due bytes more : List ℕ) (n : ℕ) → length due ≤ n → bytes ≡ due ++ more
     → Begins due (take n bytes)
 front_of_front [] bytes more n short is = (take n bytes, refl)
@@ -351,7 +351,7 @@ all_stand inserter past (taken ∷ later) time packets let_in was =
     batch_of [] inside = last_batch inserter (tick time) past inside
     batch_of (taken ∷ later) inside = last_batch inserter taken (later ++ tick time ∷ past) inside
 
--- what is due for a tick is a front of every later batch
+-- what is due for a tick is a prefix of every later batch
 pub due_stays : (inserter : Inserter) (past later : List RowOrTick) (time : ℕ) (packets now : List ℕ)
     → LetIn inserter (later ++ tick time ∷ past) → IsBatchOf inserter past packets
     → IsBatchOf inserter (later ++ tick time ∷ past) now

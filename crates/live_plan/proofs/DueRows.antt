@@ -73,7 +73,7 @@ batch_goes_on inserter past begun packets begins is =
 short : (n : ℕ) (all now : List ℕ) → now ≡ take n all → length now ≤ n
 short n all now is = omega (arith, ap length is, length-take n all)
 
--- a front of bytes that is as long as their beginning goes on with it
+-- a prefix of bytes that is as long as their beginning goes on with it
 pub front_goes_on : (n : ℕ) (before more now : List ℕ) → now ≡ take n (before ++ more) → length before ≤ length now
     → (rest : List ℕ) × (now ≡ before ++ rest)
 front_goes_on n before more now is longer =

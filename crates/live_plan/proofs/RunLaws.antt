@@ -24,7 +24,7 @@ use Rattle.live_plan.specs.declared.run.Stop.TheVariants as stop
 
 -- ---- bytes that were written
 
--- a front of what was to be written behind bytes that were
+-- a prefix of what was to be written behind bytes that were
 pub prefix_behind : (a b c : Option (List ℕ)) (first second : List ℕ) → Appends a b first
     → AppendsPrefix b c second → AppendsPrefix a c (first ++ second)
 prefix_behind a b c first second wrote (n, within, front) = (
@@ -38,7 +38,7 @@ nothing_more None b is = tt
 nothing_more (Some x) None is = absurd is
 nothing_more (Some x) (Some y) is = is ∙ append-nil x
 
--- a front of bytes that begin a batch begins it too
+-- a prefix of bytes that begin a batch begins it too
 shorter : (inserter : Inserter) (past : List RowOrTick) (first second : List ℕ) (n : ℕ)
     → BeginsBatch inserter past (first ++ second) → BeginsBatch inserter past (first ++ take n second)
 shorter inserter past first second n (more, batch) = (
@@ -336,7 +336,7 @@ module _ (begun : Begun) (earlier further : List (List ℕ)) (out its_out notes 
       subst (Wrote begun.out its_out) (append_assoc taken.due taken.behind more)
       (Appends-trans begun.out.written out.written its_out.written (taken.due ++ taken.behind) more taken.written wrote)
 
-  -- a front of bytes more was written, and these begin the packets
+  -- a prefix of bytes more was written, and these begin the packets
   stopped_in : (more : List ℕ) → AppendsPrefix out.written its_out.written more
       → HasRisen out.faults its_out.faults
       → BeginsBatch begun.inserter taken.past ((taken.due ++ taken.behind) ++ more)

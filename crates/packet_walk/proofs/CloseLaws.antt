@@ -19,7 +19,7 @@ use Rattle.packet_walk.specs.Closing.{ClosesWalk, ClosesEnd, HasEnded}
 use Rattle.packet_walk.specs.declared.told_end.ToldEnd.{ToldEnd}
 use Rattle.packet_walk.specs.declared.told_end.ToldEnd.TheVariants as told_end
 
--- what was written of a text that is put out is a front of it
+-- what was written of a text that is put out is a prefix of it
 sent_front : (start now : Option (List ℕ)) (waits text : List ℕ) → Sent start now waits text
     → AppendsPrefix start now text
 sent_front start now waits text sent =
@@ -42,7 +42,7 @@ goes_on now ended = absurd (clash ended)
     clash : false ≡ true → ⊥
     clash never = cc
 
--- a front of what was told was written
+-- a prefix of what was told was written
 told_front : (Told : Telling) (is_end : Bool) (pid : ℕ) (before now : Supplied) (start out : Received)
     (buffer : Buffered) (packets : List (List ℕ)) (rest : List ℕ) → (is_end ≡ true → IsAtEnd now.left)
     → IsToldFrom (Told is_end) pid before now start out buffer packets rest → IsFront Told pid before now start out

@@ -35,7 +35,7 @@ FinishesTold Before Told out next buffer new ended = (pid : ℕ) (before now : S
     → IsEnd Before pid before now start out buffer ended → HasEnded Told pid before now start next new ended
 
 -- the text that was put out since a start was written whole, and the answer is that of the run; or the sink has
--- received a front of it, and its count of faults rose
+-- received a prefix of it, and its count of faults rose
 abbrev pub ClosesWalk : Received → Received → Buffered → ToldEnd → ToldEnd → Type 0
 ClosesWalk before now buffer run answer = (start : Received) (text : List ℕ) → IsPutOut start before buffer text
     → ((answer ≡ run) × Appends start.written now.written text)

@@ -60,7 +60,7 @@ pub record IsUpToFailure (Told : Telling) (pid : ℕ) (before now : Supplied)
   pub told : Told false packets text
   pub written : Appends out_before.written out_now.written text
 
--- the output has received a front of the text of packets that the source gave; of what the end of the stream adds only
+-- the output has received a prefix of the text of packets that the source gave; of what the end of the stream adds only
 -- where the source is at its end
 pub record IsFront (Told : Telling) (pid : ℕ) (before now : Supplied) (out_before out_now : Received) : Type 0 where
   pub packets : List (List ℕ)

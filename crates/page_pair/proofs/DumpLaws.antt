@@ -27,7 +27,7 @@ whole_prefix old new bytes whole =
     (length bytes, omega arith, subst (λ (l : List ℕ). Appends old new l) (sym (take-length bytes)) whole)
 
 module _ (dump : PairDump) (ticks : List ℕ) (before now second : Supplied) (start next : Received) where
-  -- the texts of the packets that were read whole are a front
+  -- the texts of the packets that were read whole are a prefix
   unread_front : IsUpToFailure (tells_pair dump ticks) dump.pid before now start next
       → IsFront (tells_pair dump ticks) dump.pid before now start next
   unread_front is =

@@ -84,7 +84,7 @@ IsDumpRefused dump ticks before now (pair.Stream packet fault) =
     IsUpToFault (tells_pair dump ticks) dump.pid before.first now.first before.out now.out packet fault
 IsDumpRefused dump ticks before now fault = ⊥
 
--- nothing was written, or a front of the texts of packets that the source gave
+-- nothing was written, or a prefix of the texts of packets that the source gave
 abbrev pub IsDumpStopped : PairDump → List ℕ → Seen → Seen → Type 0
 IsDumpStopped dump ticks before now =
     WroteNothing before.out now.out

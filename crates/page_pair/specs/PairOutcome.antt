@@ -178,7 +178,7 @@ IsPairRefused profile pages before now (pair.Stream packet fault) = ⊥
 
 -- ---- stopped
 
--- nothing was written, or a front of the packets of both scripts
+-- nothing was written, or a prefix of the packets of both scripts
 abbrev pub IsPairStopped : Pairing → Seen → Seen → Type 0
 IsPairStopped pairing before now =
     WroteNothing before.out now.out

@@ -13,7 +13,7 @@ use Rattle.pes_packets.proofs.ReaderTests.{Passes, passes_is_faultless, faultles
 abbrev front : PesForm → List ℕ
 front form = packed (pes_groups form) ++ form.further_header
 
--- an item and what follows it behind a front of known length
+-- an item and what follows it behind a prefix of known length
 item_behind : (xs front rest : List ℕ) (n item : ℕ) → xs ≡ front ++ item ∷ rest → length front ≡ n
     → get_or xs n 0 ≡ item
 item_behind xs front rest n item e len = ap (λ (ys : List ℕ). get_or ys n 0) e ∙ get_or_at front item rest 0 n len

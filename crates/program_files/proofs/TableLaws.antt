@@ -9,7 +9,7 @@ use Rattle.sub_base.proofs.TransferSteps.{HasRisen-since}
 use Rattle.sub_base.specs.Endpoints.{Received, HasWriteFault, Wrote, WrotePrefix}
 use Rattle.program_files.specs.Table.{IsToldOn}
 
--- a front of the first piece is one of both
+-- a prefix of the first piece is one of both
 pub front_told : (before now : Received) (first second : List ℕ) → WrotePrefix before now first
     → HasWriteFault before now → IsToldOn before now (first ++ second)
 front_told before now first second (n, few, front) risen =
@@ -22,7 +22,7 @@ front_told before now first second (n, few, front) risen =
       risen,
     )
 
--- and so is the first piece with a front of the second
+-- and so is the first piece with a prefix of the second
 pub both_told : {F : Type 0} (before between now : Received) (first second : List ℕ) (result : Result (Unit {0}) F)
     → Wrote before between first → before.faults ≤ between.faults
     → OnOk result (Wrote between now second) → OnErr result (WrotePrefix between now second)

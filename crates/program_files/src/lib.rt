@@ -24,6 +24,3 @@ pub use keeping::{OutputKind, is_kept};
 pub use output::Output;
 pub use table::tell_table;
 pub use words::{WordsFault, word_at, words_of};
-
-#[cfg(test)]
-mod tests;

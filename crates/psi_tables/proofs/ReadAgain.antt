@@ -9,7 +9,7 @@ use Rattle.byteorder.specs.Endian.{big_bytes}
 use Rattle.psi_tables.specs.Crc.{crc_of}
 use Rattle.psi_tables.specs.Laws.{IsService}
 use Rattle.psi_tables.specs.Loops.{descriptors_of, streams_of, twelve_at}
-use Rattle.psi_tables.specs.Sections.{Pat, Pmt, is_body, is_cut, is_pmt_body, right_section, section_size, streams_in, whole_section}
+use Rattle.psi_tables.specs.Sections.{Pat, Pmt, is_body, is_cut, is_pmt_body, valid_section, section_size, streams_in, whole_section}
 use Rattle.psi_tables.specs.Services.{named_by, pid_in, pid_named, subtitle_pid}
 use Rattle.psi_tables.specs.Writing.{before_crc, pat_entry, pmt_body, written_pat, written_pmt, written_section}
 use Rattle.psi_tables.specs.declared.service.Service.{Service}
@@ -57,7 +57,7 @@ whole_written table id body more short =
     rw (is-whole table id body more short) (ap Some (taken table id body more short))
 
 read_written : (table id : ℕ) (body more : List ℕ) → IsWritable table id body
-    → right_section (written_section table id body ++ more)
+    → valid_section (written_section table id body ++ more)
     ≡ Some (if table == 0 then Pat id body else Pmt id (streams_in body))
 read_written table id body more is =
     let passes : PassesHead (written_section table id body ++ more) (9 + length body) = record {
@@ -96,7 +96,7 @@ pat_writable services few =
     }
 
 pub pat_again : (services : List Service) (more : List ℕ) → length services ≤ 8
-    → right_section (written_pat services ++ more) ≡ Some (Pat 1 (flat_map pat_entry services))
+    → valid_section (written_pat services ++ more) ≡ Some (Pat 1 (flat_map pat_entry services))
 pat_again services more few = read_written 0 1 (flat_map pat_entry services) more (pat_writable services few)
 
 pub whole_pat : (services : List Service) (more : List ℕ) → length services ≤ 8

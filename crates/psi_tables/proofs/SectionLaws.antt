@@ -1,11 +1,11 @@
--- A section that no test refuses says what its bytes say; and what a reader answers is the only right answer.
+-- A section that no test refuses says what its bytes say; and what a reader answers is the only valid answer.
 use Rattle.std.proofs.Common.{◌≡◌, ℕ, ◌+◌, ◌-◌, ◌%◌, ◌≤◌, true, false, ltb, List, take, drop, Option, Some, None, refl, sym, ap, subst, ◌∙◌, arith}
 use Rattle.std.specs.Prelude.{◌==◌, ◌||◌, not, if◌then◌else◌, IsOkAnd, Result, Ok, Err, MatchResult}
 use Rattle.std.proofs.lemmas.Bool.{le-ltb}
 use Rattle.stream_syntax.specs.Tests.{byte_at, word_at}
 use Rattle.psi_tables.specs.Crc.{crc_of}
 use Rattle.psi_tables.specs.Loops.{twelve_at}
-use Rattle.psi_tables.specs.Sections.{SectionValue, Pat, Pmt, body_of, contents, is_body, is_cut, right_section, section_fault, section_size, section_value, streams_in, value_by}
+use Rattle.psi_tables.specs.Sections.{SectionValue, Pat, Pmt, body_of, contents, is_body, is_cut, valid_section, section_fault, section_size, section_value, streams_in, value_by}
 use Rattle.psi_tables.specs.declared.section.Section.{Section}
 use Rattle.psi_tables.specs.declared.fault.SectionFault.{SectionFault}
 use Rattle.psi_tables.specs.declared.fault.SectionFault.TheVariants.{BadLoop}
@@ -43,14 +43,14 @@ bad_loop bytes size passes faulty =
     by_body bytes size passes ∙ ap (λ whole. if not whole then Some BadLoop else None) body
 
 pub right_by : (bytes : List ℕ) → section_fault bytes ≡ None
-    → right_section bytes ≡ Some (section_value bytes)
+    → valid_section bytes ≡ Some (section_value bytes)
 right_by bytes none = ap (value_by bytes) none
 
 pub right_value : (bytes : List ℕ) (size : ℕ) (value : SectionValue) → PassesHead bytes size
     → is_body (byte_at 0 bytes) (take (3 + size - 4 - 8) (drop 8 bytes)) ≡ true
     → value ≡ (if byte_at 0 bytes == 0 then Pat (word_at 3 bytes) (take (3 + size - 4 - 8) (drop 8 bytes))
     else Pmt (word_at 3 bytes) (streams_in (take (3 + size - 4 - 8) (drop 8 bytes))))
-    → right_section bytes ≡ Some value
+    → valid_section bytes ≡ Some value
 right_value bytes size value passes whole is =
     let same = body_at bytes size passes.size_is in
     let body : is_body (byte_at 0 bytes) (body_of bytes) ≡ true =
@@ -65,7 +65,7 @@ some_is : {X : Type 0} {a b : X} → Some a ≡ Some b → a ≡ b
 some_is e = cc
 
 -- a value is that of a section without a fault
-pub by_value : (bytes : List ℕ) (value : SectionValue) → right_section bytes ≡ Some value
+pub by_value : (bytes : List ℕ) (value : SectionValue) → valid_section bytes ≡ Some value
     → (section_fault bytes ≡ None) × (section_value bytes ≡ value)
 by_value bytes value right = by_fault (section_fault bytes) refl
   where
@@ -74,24 +74,24 @@ by_value bytes value right = by_fault (section_fault bytes) refl
     by_fault None e = (e, some_is (sym (ap (value_by bytes) e) ∙ right))
     by_fault (Some fault) e = let none : None ≡ Some value = sym (ap (value_by bytes) e) ∙ right in absurd cc
 
--- ---- the only right answer
+-- ---- the only valid answer
 
-right_or_faulty : (bytes : List ℕ) (value : SectionValue) (fault : SectionFault)
-    → right_section bytes ≡ Some value → section_fault bytes ≡ Some fault → ⊥
-right_or_faulty bytes value fault right faulty =
+valid_or_faulty : (bytes : List ℕ) (value : SectionValue) (fault : SectionFault)
+    → valid_section bytes ≡ Some value → section_fault bytes ≡ Some fault → ⊥
+valid_or_faulty bytes value fault right faulty =
     let e : None ≡ Some value = sym (ap (value_by bytes) faulty) ∙ right in absurd cc
 
 pub every_section : (bytes : List ℕ) (result : Result Section SectionFault)
-    → MatchResult result (λ section. right_section bytes ≡ Some (contents section))
+    → MatchResult result (λ section. valid_section bytes ≡ Some (contents section))
     (λ fault. section_fault bytes ≡ Some fault)
-    → (value : SectionValue) → right_section bytes ≡ Some value
+    → (value : SectionValue) → valid_section bytes ≡ Some value
     → IsOkAnd result (λ section. contents section ≡ value)
 every_section bytes (Ok section) exact value right = some_is (sym exact ∙ right)
-every_section bytes (Err fault) exact value right = absurd (right_or_faulty bytes value fault right exact)
+every_section bytes (Err fault) exact value right = absurd (valid_or_faulty bytes value fault right exact)
 
 pub every_fault : (bytes : List ℕ) (result : Result Section SectionFault)
-    → MatchResult result (λ section. right_section bytes ≡ Some (contents section))
+    → MatchResult result (λ section. valid_section bytes ≡ Some (contents section))
     (λ fault. section_fault bytes ≡ Some fault)
     → (fault : SectionFault) → section_fault bytes ≡ Some fault → result ≡ Err fault
-every_fault bytes (Ok section) exact fault faulty = absurd (right_or_faulty bytes (contents section) fault exact faulty)
+every_fault bytes (Ok section) exact fault faulty = absurd (valid_or_faulty bytes (contents section) fault exact faulty)
 every_fault bytes (Err other) exact fault faulty = ap Err (some_is (sym exact ∙ faulty))

@@ -19,7 +19,7 @@ use Rattle.segments.proofs.Shapes.{AreBytes, AreBytes-drop, AreBytes-take, field
 use Rattle.psi_tables.specs.Crc.{crc_of}
 use Rattle.psi_tables.specs.Layout.{HasDescriptors, IsSection, Says, Table, body_rows, body_size, pat_table, pmt_table, stream_rows, table_id, table_number}
 use Rattle.psi_tables.specs.Loops.{are_descriptors, are_entries, are_streams, entries_of, streams_of, twelve_at}
-use Rattle.psi_tables.specs.Sections.{Pat, Pmt, SectionValue, body_of, head_descriptors, is_body, is_pmt_body, right_section, section_fault, section_size, section_value, streams_in}
+use Rattle.psi_tables.specs.Sections.{Pat, Pmt, SectionValue, body_of, head_descriptors, is_body, is_pmt_body, valid_section, section_fault, section_size, section_value, streams_in}
 use Rattle.psi_tables.proofs.RowsAgain.{AreBytes_behind, StreamsAgain, behind_is, descriptors_again, entries_again, streams_again, take_2_5_1, take_r3_13}
 use Rattle.psi_tables.proofs.RowsLaid.{Laid, both, byte_laid, descriptors_are, entries_laid, pid_laid, size_laid, streams_laid, version_laid, word_laid}
 use Rattle.psi_tables.proofs.SectionLaws.{PassesHead, by_value, right_value}
@@ -381,7 +381,7 @@ known_table (pmt_table service pcr info streams) = refl
 
 cells_right : (table : Table) (cells : Cells table) (more : List ℕ) → 9 + body_size table ≤ 1021
     → crc_of (bytes_in table cells) ≡ 0
-    → right_section (bytes_in table cells ++ more)
+    → valid_section (bytes_in table cells ++ more)
     ≡ Some (if table_id table == 0 then Pat (table_number table) cells.body
     else Pmt (table_number table) (streams_in cells.body))
 cells_right table cells more short check =
@@ -414,7 +414,7 @@ cells_right table cells more short check =
     (ap (is_body (table_id table)) same ∙ cells.whole) (rw (same, cells.id) refl)
 
 section_again : (bytes more : List ℕ) (table : Table) → AreBytes bytes → IsSection bytes table
-    → (value : SectionValue) × (right_section (bytes ++ more) ≡ Some value) × Says value table
+    → (value : SectionValue) × (valid_section (bytes ++ more) ≡ Some value) × Says value table
 section_again ([]) more table small is = absurd (omega (arith, fields_bytes _ ([]) is.layout))
 section_again (a ∷ []) more table small is = absurd (omega (arith, fields_bytes _ (a ∷ []) is.layout))
 section_again (a ∷ b ∷ []) more table small is = absurd (omega (arith, fields_bytes _ (a ∷ b ∷ []) is.layout))
@@ -444,7 +444,7 @@ section_again (a ∷ b ∷ c ∷ d ∷ e ∷ f ∷ g ∷ h ∷ rest) more table 
     with-body : BodyAgain table rest (number 32 is.marks.check ∷ []) → a ≡ table_id table
         → ((b * 256 + c) % 4096 ≡ 9 + body_size table) × (d * 256 + e ≡ table_number table) × (f % 2 ≡ 1)
         → (value : SectionValue)
-        × (right_section ((a ∷ b ∷ c ∷ d ∷ e ∷ f ∷ g ∷ h ∷ rest) ++ more) ≡ Some value)
+        × (valid_section ((a ∷ b ∷ c ∷ d ∷ e ∷ f ∷ g ∷ h ∷ rest) ++ more) ≡ Some value)
         × Says value table
     with-body body kind says =
         let cells : Cells table = record {
@@ -469,7 +469,7 @@ section_again (a ∷ b ∷ c ∷ d ∷ e ∷ f ∷ g ∷ h ∷ rest) more table 
         ∙ ap (λ tail. table_id table ∷ b ∷ c ∷ d ∷ e ∷ f ∷ g ∷ h ∷ tail) body.parts in (
           if table_id table == 0 then Pat (table_number table) body.body
               else Pmt (table_number table) (streams_in body.body),
-          ap (λ bytes. right_section (bytes ++ more)) parts
+          ap (λ bytes. valid_section (bytes ++ more)) parts
               ∙ cells_right table cells more is.short (ap crc_of (sym parts) ∙ is.right_crc),
           body.says,
         )
@@ -477,7 +477,7 @@ section_again (a ∷ b ∷ c ∷ d ∷ e ∷ f ∷ g ∷ h ∷ rest) more table 
 -- ---- the laws
 
 pub laid_out : (bytes : List ℕ) (value : SectionValue) → All (λ byte. byte < 256) bytes
-    → right_section bytes ≡ Some value
+    → valid_section bytes ≡ Some value
     → (table : Table) × IsSection (take (section_size bytes) bytes) table × Says value table
 laid_out bytes value small right =
     let found = by_value bytes value right in
@@ -485,5 +485,5 @@ laid_out bytes value small right =
     (laid.0, laid.1, subst (λ value. Says value laid.0) found.1 laid.2)
 
 pub taken_again : (bytes more : List ℕ) (table : Table) → All (λ byte. byte < 256) bytes → IsSection bytes table
-    → (value : SectionValue) × (right_section (bytes ++ more) ≡ Some value) × Says value table
+    → (value : SectionValue) × (valid_section (bytes ++ more) ≡ Some value) × Says value table
 taken_again bytes more table small is = section_again bytes more table (all_bytes bytes small) is

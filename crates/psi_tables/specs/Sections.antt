@@ -83,5 +83,5 @@ value_by bytes None = Some (section_value bytes)
 value_by bytes (Some fault) = None
 
 -- the section that begins these bytes, where no test refuses it
-abbrev pub right_section : List ℕ → Option SectionValue
-right_section bytes = value_by bytes (section_fault bytes)
+abbrev pub valid_section : List ℕ → Option SectionValue
+valid_section bytes = value_by bytes (section_fault bytes)

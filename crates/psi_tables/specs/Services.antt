@@ -3,7 +3,7 @@ use Rattle.std.specs.Prelude.{ℕ, ◌==◌, nat_lt, Bool, ◌&&◌, ◌||◌, i
 use Rattle.std.specs.List.{list_any}
 use Rattle.stream_syntax.specs.declared.wire.TheConstants.{NULL_PID}
 use Rattle.psi_tables.specs.Loops.{Descriptor, Stream, descriptors_of, entries_of, streams_of, thirteen_at}
-use Rattle.psi_tables.specs.Sections.{SectionValue, Pat, Pmt, right_section}
+use Rattle.psi_tables.specs.Sections.{SectionValue, Pat, Pmt, valid_section}
 
 -- the PID that entries of a PAT list for a service, the first of them
 abbrev pub pid_listed : ℕ → List ℕ → Option ℕ
@@ -37,10 +37,10 @@ named_by named (Some section) = named section
 
 -- what the bytes of a section name, where no test refuses it
 abbrev pub pmt_in : ℕ → List ℕ → Option ℕ
-pmt_in service section = named_by (pmt_named service) (right_section section)
+pmt_in service section = named_by (pmt_named service) (valid_section section)
 
 abbrev pub pid_in : ℕ → List ℕ → Option ℕ
-pid_in service section = named_by (pid_named service) (right_section section)
+pid_in service section = named_by (pid_named service) (valid_section section)
 
 -- ---- the clock
 

@@ -6,7 +6,7 @@ ghost use Rattle.byteorder.specs.Endian.{big_bytes};
 ghost use Rattle.psi_tables.specs.Crc.{crc_of};
 ghost use Rattle.psi_tables.specs.Laws.{IsService};
 ghost use Rattle.psi_tables.specs.Layout.{IsSection, Says, Table};
-ghost use Rattle.psi_tables.specs.Sections.{Pat, SectionValue, right_section, section_size, whole_section};
+ghost use Rattle.psi_tables.specs.Sections.{Pat, SectionValue, valid_section, section_size, whole_section};
 ghost use Rattle.psi_tables.specs.Services.{pid_in};
 ghost use Rattle.psi_tables.specs.Writing.{pat_entry, written_pat, written_pmt};
 ghost use Rattle.psi_tables.specs.declared.service.Service.{Service};
@@ -22,12 +22,12 @@ pub fn own_crc()
 /// follows it.
 pub fn section_laws()
     ensures laid_out { (bytes : List ℕ) (value : SectionValue) → All (λ byte. byte < 256) bytes
-        → right_section bytes ≡ Some value
+        → valid_section bytes ≡ Some value
         → (table : Table) × IsSection (take (section_size bytes) bytes) table
         × Says value table }
     ensures taken { (bytes more : List ℕ) (table : Table) → All (λ byte. byte < 256) bytes
         → IsSection bytes table
-        → (value : SectionValue) × (right_section (bytes ++ more) ≡ Some value)
+        → (value : SectionValue) × (valid_section (bytes ++ more) ≡ Some value)
         × Says value table }
 {}
 
@@ -36,7 +36,7 @@ pub fn section_laws()
 pub fn read_again()
     ensures pat { (services : List Service) (more : List ℕ) → All IsService services
         → length services ≤ 8
-        → right_section (written_pat services ++ more)
+        → valid_section (written_pat services ++ more)
         ≡ Some (Pat 1 (flat_map pat_entry services)) }
     ensures pmt { (service : Service) (more : List ℕ) → IsService service
         → pid_in service.number (written_pmt service ++ more) ≡ Some service.pid }

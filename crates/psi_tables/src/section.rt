@@ -1,5 +1,5 @@
 ghost use Rattle.std.specs.Prelude.{◌≡◌, ◌==◌, ◌||◌, true, Some, IsOkAnd, MatchResult, if◌then◌else◌};
-ghost use Rattle.psi_tables.specs.Sections.{Pat, Pmt, SectionValue, contents, is_body, is_cut, is_pmt_body, right_section, section_fault, streams_in};
+ghost use Rattle.psi_tables.specs.Sections.{Pat, Pmt, SectionValue, contents, is_body, is_cut, is_pmt_body, valid_section, section_fault, streams_in};
 ghost use Rattle.psi_tables.specs.Services.{clock_in, pid_named, pmt_named};
 
 use crate::checksum::crc;
@@ -94,10 +94,10 @@ pub fn clock_pid(section: &[u8]) -> Option<u16>
 #[tactic(auto, using(crate::proofs::SectionLaws::every_section, crate::proofs::SectionLaws::every_fault))]
 pub fn read_section(bytes: &[u8]) -> Result<Section<'_>, SectionFault>
     ensures exact { MatchResult result
-        (λ section. right_section bytes.now ≡ Some (contents section))
+        (λ section. valid_section bytes.now ≡ Some (contents section))
         (λ fault. section_fault bytes.now ≡ Some fault) }
     // Bytes that are a section are taken as this section.
-    ensures every_section { (value : SectionValue) → right_section bytes.now ≡ Some value
+    ensures every_section { (value : SectionValue) → valid_section bytes.now ≡ Some value
         → IsOkAnd result (λ section. contents section ≡ value) }
     ensures every_fault { (fault : SectionFault) → section_fault bytes.now ≡ Some fault
         → result ≡ Err fault }
@@ -108,7 +108,7 @@ pub fn read_section(bytes: &[u8]) -> Result<Section<'_>, SectionFault>
 /// The section that begins the bytes, or the fault of the first test that fails.
 fn section_of(bytes: &[u8]) -> Result<Section<'_>, SectionFault>
     ensures { MatchResult result
-        (λ section. right_section bytes.now ≡ Some (contents section))
+        (λ section. valid_section bytes.now ≡ Some (contents section))
         (λ fault. section_fault bytes.now ≡ Some fault) }
 {
     if is_cut(bytes) {

@@ -67,7 +67,7 @@ IsSendCause profile script send.Memory = Unit {0}
 IsSendCause profile script (send.Plan fault) = IsPlanRefused profile script fault
 IsSendCause profile script (send.Schedule row fault) = IsScheduleRefused profile script row fault
 
--- why the packets of a script were not all written, and what was: nothing, or a front of them where the sink failed
+-- why the packets of a script were not all written, and what was: nothing, or a prefix of them where the sink failed
 abbrev pub IsCompileEnd : Compiling → Received → Received → CompileFault → Type 0
 IsCompileEnd compiling before now (compile.Send fault) =
     IsSendCause compiling.profile compiling.script fault × Keeps before.written now.written

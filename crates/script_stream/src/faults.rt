@@ -18,6 +18,6 @@ pub enum SendFault {
 pub enum CompileFault {
     /// The script has no stream, or memory is wanting; nothing was written.
     Send(SendFault),
-    /// The sink could not be written; it has a front of the packets.
+    /// The sink could not be written; it has a prefix of the packets.
     Write,
 }

@@ -21,7 +21,7 @@ use Rattle.decoder_model.proofs.Lists.{all-append, find-map}
 use Rattle.sent_sets.proofs.Units.{SetUnit, TimedSet, segments_of_units, size_of_units, all_segments, IsBefore, DoEnd, AreSetUnits, IsTimedSet}
 use Rattle.sent_sets.proofs.Runs.{IsPlaced, AreOwnRuns, no_run, own_run, first_time, run_frames, run_size, run_front, run_length}
 
--- ---- fronts
+-- ---- prefixes
 
 -- where no front before the whole passes, the whole is the first that does, or none does
 whole_or_none : {X : Type 0} (test : List X → Bool) (x : X) (xs : List X)
@@ -263,7 +263,7 @@ handable_units coded over (set ∷ sets) h = (h.0.some, handable_units coded ove
 
 -- ---- its units
 
--- the segments of the first units are a front of those of all
+-- the segments of the first units are a prefix of those of all
 front_of_all : (units : List SetUnit) (k : ℕ)
     → segments_of_units (take k units) ≡ take (length (segments_of_units (take k units))) (segments_of_units units)
 front_of_all units zero = refl

@@ -16,7 +16,7 @@ use Rattle.stream_syntax.specs.declared.transport.PacketFault.{PacketFault}
 use Rattle.stream_syntax.specs.declared.transport.PacketFault.TheVariants as faults
 use Rattle.ts_packets.proofs.WrittenPackets.{written_says}
 use Rattle.psi_tables.specs.Laws.{IsService}
-use Rattle.psi_tables.specs.Sections.{Pat, right_section, whole_section}
+use Rattle.psi_tables.specs.Sections.{Pat, valid_section, whole_section}
 use Rattle.psi_tables.specs.Services.{named_by, pid_in, pid_listed, pmt_in, pmt_named}
 use Rattle.psi_tables.specs.Writing.{pat_entry, written_pat, written_pmt}
 use Rattle.psi_tables.specs.declared.service.Service.{Service}
@@ -351,8 +351,8 @@ module _ (pair : ServicePair) (first second : List (List ℕ)) (are : AreService
       one_section 0 0 _ _ [] (omega arith) (omega arith) refl
       (whole_pat (pair.one ∷ pair.two ∷ []) (replicate (183 - length pat_of) 255) (omega arith)) refl refl
 
-  pat_says : right_section pat_of ≡ Some (Pat 1 (flat_map pat_entry (pair.one ∷ pair.two ∷ [])))
-  pat_says = ap right_section (sym (append-nil pat_of)) ∙ pat_again (pair.one ∷ pair.two ∷ []) [] (omega arith)
+  pat_says : valid_section pat_of ≡ Some (Pat 1 (flat_map pat_entry (pair.one ∷ pair.two ∷ [])))
+  pat_says = ap valid_section (sym (append-nil pat_of)) ∙ pat_again (pair.one ∷ pair.two ∷ []) [] (omega arith)
 
   one_named : pmt_in pair.one.number pat_of ≡ Some pair.one.pmt
   one_named =

@@ -3,7 +3,7 @@ use Rattle.std.proofs.Common.{◌≡◌, ◌∙◌, ℕ, ◌==◌, false, List, 
 use Rattle.std.specs.Prelude.{◌||◌}
 use Rattle.std.specs.List.{list_any}
 use Rattle.psi_tables.specs.Loops.{Stream, entries_of, streams_of}
-use Rattle.psi_tables.specs.Sections.{Pat, Pmt, right_section, section_fault, value_by}
+use Rattle.psi_tables.specs.Sections.{Pat, Pmt, valid_section, section_fault, value_by}
 use Rattle.psi_tables.specs.Walking.{IsFirstStream}
 use Rattle.psi_tables.specs.declared.fault.SectionFault.{SectionFault}
 use Rattle.psi_tables.specs.declared.loops.StreamEntry.{StreamEntry}
@@ -19,7 +19,7 @@ pub streams_refused : (bytes : List ℕ) (fault : SectionFault) → section_faul
 streams_refused bytes fault is = ap (λ f. streams_by (value_by bytes f)) is
 
 pub streams_other : (bytes : List ℕ) (stream : ℕ) (entries : List ℕ)
-    → right_section bytes ≡ Some (Pat stream entries) → streams_in bytes ≡ []
+    → valid_section bytes ≡ Some (Pat stream entries) → streams_in bytes ≡ []
 streams_other bytes stream entries is = ap streams_by is
 
 pub entries_refused : (bytes : List ℕ) (fault : SectionFault) → section_fault bytes ≡ Some fault
@@ -27,7 +27,7 @@ pub entries_refused : (bytes : List ℕ) (fault : SectionFault) → section_faul
 entries_refused bytes fault is = ap (λ f. entries_by (value_by bytes f)) is
 
 pub entries_other : (bytes : List ℕ) (number : ℕ) (streams : List ℕ)
-    → right_section bytes ≡ Some (Pmt number streams) → entries_in bytes ≡ []
+    → valid_section bytes ≡ Some (Pmt number streams) → entries_in bytes ≡ []
 entries_other bytes number streams is = ap entries_by is
 
 -- a PID among streams

@@ -4,7 +4,7 @@ use Rattle.sub_base.specs.Lists.{first_given}
 use Rattle.service_tables.specs.Tables.{wanted_in}
 use Rattle.service_tables.specs.declared.first_section.Table.{Table}
 
--- the table that is looked for, and its first right section, where one has come
+-- the table that is looked for, and its first valid section, where one has come
 pub record FirstFound : Type 0 where
   pub table : Table
   pub section : Option (List ℕ)

@@ -1,9 +1,9 @@
--- The programmes of a stream (ISO/IEC 13818-1, 2.4.4): those that its first right PAT lists, each with its first right
+-- The programmes of a stream (ISO/IEC 13818-1, 2.4.4): those that its first valid PAT lists, each with its first valid
 -- PMT.
 use Rattle.std.specs.Prelude.{ℕ, ◌==◌, not, Bool, true, false, if◌then◌else◌, List, [], ◌∷◌, filter, map, Option, Some, None}
 use Rattle.sub_base.specs.Lists.{first_given}
 use Rattle.psi_tables.specs.Loops.{PatEntry, Stream, entries_of, streams_of}
-use Rattle.psi_tables.specs.Sections.{SectionValue, Pat, Pmt, right_section}
+use Rattle.psi_tables.specs.Sections.{SectionValue, Pat, Pmt, valid_section}
 use Rattle.section_reader.specs.First.{Found, first_in}
 use Rattle.section_reader.specs.Sections.{sections_of}
 use Rattle.service_tables.specs.declared.first_section.Table.{Table}
@@ -30,11 +30,11 @@ abbrev pub passes : (SectionValue → Bool) → Option SectionValue → Bool
 passes test None = false
 passes test (Some value) = test value
 
--- the bytes are a right section of that table
+-- the bytes are a valid section of that table
 abbrev pub is_wanted : Table → List ℕ → Bool
-is_wanted wanted section = passes (is_of wanted) (right_section section)
+is_wanted wanted section = passes (is_of wanted) (valid_section section)
 
--- the section, where it is a right one of that table
+-- the section, where it is a valid one of that table
 abbrev pub wanted_in : Table → List ℕ → Option (List ℕ)
 wanted_in wanted section = if is_wanted wanted section then Some section else None
 
@@ -47,7 +47,7 @@ entries_by (Some (Pat stream entries)) = entries_of entries
 entries_by (Some (Pmt number streams)) = []
 
 abbrev pub entries_in : List ℕ → List PatEntry
-entries_in section = entries_by (right_section section)
+entries_in section = entries_by (valid_section section)
 
 abbrev pub streams_by : Option SectionValue → List Stream
 streams_by None = []
@@ -55,7 +55,7 @@ streams_by (Some (Pat stream entries)) = []
 streams_by (Some (Pmt number streams)) = streams_of streams
 
 abbrev pub streams_in : List ℕ → List Stream
-streams_in section = streams_by (right_section section)
+streams_in section = streams_by (valid_section section)
 
 -- the programmes that entries list, in order: an entry with the number 0 lists none (it gives the network's PID), and
 -- of entries with one number the first does
@@ -71,11 +71,11 @@ pub record ProgrammeMap : Type 0 where
   pub pid : ℕ
   pub section : Option (List ℕ)
 
--- the first right PAT of a stream, and the packets behind the one in which its section ends
+-- the first valid PAT of a stream, and the packets behind the one in which its section ends
 abbrev pub first_pat : List (List ℕ) → Option (Found (List ℕ))
 first_pat packets = first_in (wanted_in table.Pat) 0 packets
 
--- the first right PMT of a programme in packets, whose PID is read as if the stream began with them
+-- the first valid PMT of a programme in packets, whose PID is read as if the stream began with them
 abbrev pub first_map : PatEntry → List (List ℕ) → Option (List ℕ)
 first_map entry packets = first_given (wanted_in (table.Pmt entry.number)) (sections_of entry.pid packets)
 
@@ -86,7 +86,7 @@ abbrev pub maps_behind : Option (Found (List ℕ)) → List ProgrammeMap
 maps_behind None = []
 maps_behind (Some pat) = map (with_map pat.1) (programmes_of (entries_in pat.0))
 
--- the programmes of a stream, in the order of its first right PAT, each with its first right PMT behind that. Later
+-- the programmes of a stream, in the order of its first valid PAT, each with its first valid PMT behind that. Later
 -- tables change nothing
 unfoldable pub programme_maps : List (List ℕ) → List ProgrammeMap
 programme_maps packets = maps_behind (first_pat packets)

@@ -64,7 +64,7 @@ next_lifted anchor past delivery one set lifted ready read is =
     ∙ ap (λ (time : Option ℕ). option_and_then (lifted_behind anchor (last_time anchor past)) time)
     (sym (read_time delivery one read ∙ ready_time delivery set ready))
 
--- what stands behind equal fronts is the same
+-- what stands behind equal prefixes is the same
 same_next : {X : Type 0} (front : List X) (a b : X) (more rest : List X) → front ++ a ∷ more ≡ front ++ b ∷ rest
     → a ≡ b
 same_next [] a b more rest is = (let same : a ≡ b = cc in same)

@@ -44,7 +44,7 @@ written_more pid pieces slots slot many start old new before more =
     (Appends-trans start old new (packets_before pid pieces slots slot) (packets_at pid pieces slots slot many) before
     more)
 
--- a front of a frame was written
+-- a prefix of a frame was written
 pub written_front : (pid : ℕ) (pieces : List Piece) (slots : List ℕ) (slot many count : ℕ)
     (start old new : Option (List ℕ)) → slot + many ≤ count
     → Appends start old (packets_before pid pieces slots slot)

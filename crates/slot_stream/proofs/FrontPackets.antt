@@ -82,7 +82,7 @@ all_are_pieces [] = λ k d within. absurd (omega (arith, within))
 all_are_pieces (unit ∷ units) =
     All-append IsPiece (pieces_of unit) (all_pieces units) (pieces_of_unit unit) (all_are_pieces units)
 
--- ---- fronts of a stream
+-- ---- prefixes of a stream
 
 min_left : (a b : ℕ) → a ≤ b → a ≡ min a b
 min_left a b less = grind arith

@@ -24,7 +24,7 @@ use Rattle.stream_report.specs.LevelsOutcome.{tells_of}
 use Rattle.stream_report.specs.declared.levels_words.Arrival.TheVariants as arrival
 use Rattle.stream_report.specs.Private.ClockEnds.{FinishesByClock, told_by_clock}
 
--- a front of a text that was put out was written
+-- a prefix of a text that was put out was written
 put_front : (start now : Received) (buffer : Buffered) (text : List ℕ) → IsPutOut start now buffer text
     → AppendsPrefix start.written now.written text
 put_front start now buffer text put = by_failed buffer.failed refl

@@ -19,7 +19,7 @@ whole_prefix old new bytes whole =
     (length bytes, omega arith, subst (λ (l : List ℕ). Appends old new l) (sym (take-length bytes)) whole)
 
 module _ (Told : Telling) (pid : ℕ) (before now : Supplied) (start next : Received) where
-  -- the text of the packets that were read whole is a front
+  -- the text of the packets that were read whole is a prefix
   unread_front : IsUpToFailure Told pid before now start next → IsFront Told pid before now start next
   unread_front is = record {
     packets = is.packets;

@@ -114,7 +114,7 @@ module _ (teller : PidTeller) where
   )
   text_put out next buffer new end.Unwritten written goes pid before now start is = absurd written
 
-  -- where the output could not be written, a front of the text, which is nothing, was
+  -- where the output could not be written, a prefix of the text, which is nothing, was
   pub text_unput : is_wanting teller ≡ false → (out : Received) (buffer : Buffered)
       → FinishesTold (HasTakenStream teller) tells_pids out out buffer buffer end.Unwritten
   text_unput found out buffer pid before now start is = (

@@ -39,7 +39,7 @@ abbrev pub IsReportRefused : Telling → ℕ → Seen → Seen → ReportFault �
 IsReportRefused Told pid before now (fault.Stream packet why) =
     IsUpToFault Told pid before.first now.first before.out now.out packet why
 
--- nothing was written, or a front of the text of packets that the source gave
+-- nothing was written, or a prefix of the text of packets that the source gave
 abbrev pub IsReportStopped : Telling → ℕ → Seen → Seen → Type 0
 IsReportStopped Told pid before now =
     WroteNothing before.out now.out ⊎ IsFront Told pid before.first now.first before.out now.out
@@ -68,7 +68,7 @@ HasReportedRead Told pid before now (tool.InputTooLong which) = Unit {0}
 -- ---- memory that is taken as the stream is read
 
 -- the cause of each end of a telling that takes memory in the middle of the stream: where it is wanting, nothing was
--- written, or a front of the text of packets that the source gave
+-- written, or a prefix of the text of packets that the source gave
 abbrev pub IsLaterEnd : Telling → ℕ → Supplied → Supplied → Received → Received → ToldEnd → Type 0
 IsLaterEnd Told pid before now out_before out_now (told_end.Done cut) =
     IsToldEnd Told pid before now out_before out_now (told_end.Done cut)
@@ -84,7 +84,7 @@ IsLaterEnd Told pid before now out_before out_now told_end.Memory =
     WroteNothing out_before out_now ⊎ IsFront Told pid before now out_before out_now
 
 -- where the stream could not be read on, the output has received the text of the packets that were read whole; where
--- memory is wanting, nothing or a front
+-- memory is wanting, nothing or a prefix
 abbrev pub HasReportedLater : Telling → ℕ → Seen → Seen → ToolStatus ReportFault → Type 0
 HasReportedLater Told pid before now (tool.ReadFault which) =
     IsUpToFailure Told pid before.first now.first before.out now.out

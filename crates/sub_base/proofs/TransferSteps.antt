@@ -55,7 +55,7 @@ within-step bytes done n before fits =
     ap length (range_from bytes done) ∙ length-drop done bytes in
     omega arith
 
--- a front, and then a piece of what follows, is a longer front
+-- a prefix, and then a piece of what follows, is a longer prefix
 pub front-step : (bytes : List ℕ) (done n : ℕ)
     → take done bytes ++ take n (take (length bytes - done) (drop done bytes)) ≡ take (done + n) bytes
 front-step bytes done n =

@@ -1,7 +1,8 @@
 -- The code of a tool over files, by how its output and its line ended.
-use Rattle.std.proofs.Common.{◌≡◌, ◌⊎◌, inl, inr, ℕ, Bool, true, false, true≢false, List, Option, Some, None, is_some, refl, sym, ◌∙◌, subst, ap, arith, ◌&&◌, not, if◌then◌else◌}
+use Rattle.std.proofs.Common.{◌≡◌, ◌⊎◌, inl, inr, ℕ, Bool, true, false, true≢false, List, Option, Some, None, is_some, refl, sym, ◌∙◌, subst, ap, arith}
 use Rattle.program_files.specs.Ending.{IsToolEnding, unkept}
 use Rattle.program_files.specs.Keeping.{is_kept}
+use Rattle.program_files.proofs.KeepingLaws.{done_kept, kept_or_lost, usage_unkept}
 use Rattle.program_files.specs.declared.keeping.OutputKind.TheVariants as output
 use Rattle.sub_base.specs.Endpoints.{Received}
 use Rattle.sub_base.specs.Seen.{Seen}
@@ -41,15 +42,10 @@ told_code name before now run code (answer, inr front, eq) = inr (eq ∙ ap tool
 
 -- ---- steps that a status takes on its way to the code
 
--- what was done is kept
-done_kept : (has_written : Bool) → is_kept output.Tool has_written 0 ≡ true
-done_kept true = refl
-done_kept false = refl
-
 -- where the line could not be written
 untold_code : {F : Type 0} (has_written : Bool) (run : ToolStatus F)
     → IsCodeOf has_written run (tool_code (untold_tool run))
-untold_code has_written tool.Done = inr (done_kept has_written, refl)
+untold_code has_written tool.Done = inr (done_kept output.Tool has_written, refl)
 untold_code has_written tool.Usage = inl refl
 untold_code has_written (tool.Refused fault) = inl refl
 untold_code has_written (tool.ReadFault which) = inl refl
@@ -60,8 +56,8 @@ untold_code has_written (tool.InputTooLong which) = inl refl
 -- a status whose line could not be written has the codes of the one that it comes of
 untold_stays : {F : Type 0} (has_written : Bool) (run : ToolStatus F) (code : ℕ)
     → IsCodeOf has_written (untold_tool run) code → IsCodeOf has_written run code
-untold_stays has_written tool.Done code (inl same) = inr (done_kept has_written, same)
-untold_stays has_written tool.Done code (inr lost) = inr (done_kept has_written, lost.1)
+untold_stays has_written tool.Done code (inl same) = inr (done_kept output.Tool has_written, same)
+untold_stays has_written tool.Done code (inr lost) = inr (done_kept output.Tool has_written, lost.1)
 untold_stays has_written tool.Usage code given = given
 untold_stays has_written (tool.Refused fault) code given = given
 untold_stays has_written (tool.ReadFault which) code given = given
@@ -76,13 +72,6 @@ notes_told name has_written before now run answer code (inl whole) given =
     subst (λ end. IsCodeOf has_written end code) whole.1 given
 notes_told name has_written before now run answer code (inr front) given =
     untold_stays has_written run code (subst (λ end. IsCodeOf has_written end code) front.2 given)
-
--- one of two values is taken, and which
-chosen : {A : Type 0} (kept finished : Bool) (lost same end : A) → end ≡ (if kept && not finished then lost else same)
-    → (end ≡ same) ⊎ ((kept ≡ true) × (end ≡ lost))
-chosen true false lost same end eq = inr (refl, eq)
-chosen true true lost same end eq = inl eq
-chosen false finished lost same end eq = inl eq
 
 -- nor do the end of its output and the line of the program
 by_end : {F : Type 0} (has_written : Bool) (run ending : ToolStatus F) (code : ℕ)
@@ -101,7 +90,7 @@ pub ending_told : {F : Type 0} (has_written is_finished : Bool) (run ending : To
     → (code ≡ tool_code ending) ⊎ (code ≡ tool_code (untold_tool ending)) → IsCodeOf has_written run code
 ending_told has_written is_finished run ending code end =
     by_end has_written run ending code
-    (chosen (is_kept output.Tool has_written (tool_code run)) is_finished unkept run ending end)
+    (kept_or_lost (is_kept output.Tool has_written (tool_code run)) is_finished unkept run ending end)
 
 -- ---- a whole tool
 
@@ -131,16 +120,11 @@ may_end name causes command code end = (
 
 -- ---- wrong words
 
--- no output is kept with the status of wrong words
-usage_unkept : (has_written : Bool) → is_kept output.Tool has_written 2 ≡ true → ⊥
-usage_unkept true kept = absurd (true≢false (sym kept))
-usage_unkept false kept = absurd (true≢false (sym kept))
-
 usage_code : {F : Type 0} (has_written : Bool) (run : ToolStatus F) (code : ℕ) → run ≡ tool.Usage
     → IsCodeOf has_written run code → code ≡ 2
 usage_code has_written run code usage (inl same) = same ∙ ap tool_code usage
 usage_code has_written run code usage (inr lost) =
-    absurd (usage_unkept has_written
+    absurd (usage_unkept output.Tool has_written
     (subst (λ end. is_kept output.Tool has_written (tool_code end) ≡ true) usage lost.0))
 
 not_some : {A : Type 0} (value : A) → is_some (Some value) ≡ false → ⊥

@@ -103,7 +103,7 @@ gathered_push (first ∷ parts) part =
     ap (λ xs. bytes_in first ++ xs) (gathered_push parts part)
     ∙ sym (append_assoc (bytes_in first) (gathered parts) (bytes_in part))
 
--- a front of a unit waits for more
+-- a prefix of a unit waits for more
 abbrev waits : ℕ → List UnitPart → Bool
 waits size front = is_waiting (fate_of size (gathered front))
 

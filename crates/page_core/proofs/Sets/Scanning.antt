@@ -21,7 +21,7 @@ or_assoc : {X : Type 0} (a b c : Option X) → option_or a (option_or b c) ≡ o
 or_assoc None b c = refl
 or_assoc (Some x) b c = refl
 
--- what the reader of a front says
+-- what the reader of a prefix says
 abbrev pub Reads : List ℕ → Result Segment SegmentFault → List ℕ → Type 0
 Reads bytes found rest = (reading : Reading) (behind : List ℕ) → BeginsWith bytes reading behind
     → Matches found reading × (rest ≡ behind)

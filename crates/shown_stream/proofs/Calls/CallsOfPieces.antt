@@ -25,7 +25,7 @@ use Rattle.sent_sets.proofs.Units.{SetUnit, TimedSet, timed, IsTimedSet, IsUnitO
 
 -- ---- the pieces that are left of a unit
 
--- behind a front of a unit, these pieces are its rest; the first of them begins the unit or not
+-- behind a prefix of a unit, these pieces are its rest; the first of them begins the unit or not
 abbrev pub ArePiecesOf : Bool → List ℕ → List Piece → List ℕ → Type 0
 ArePiecesOf start front [] unit = ⊥
 ArePiecesOf start front (piece ∷ []) unit =

@@ -59,7 +59,7 @@ pub record EndsWith (all more : List SegmentValue) : Type 0 where
   pub front : List SegmentValue
   pub are : all ≡ front ++ more
 
--- of a list that begins with an item, what stands behind a front that is not empty
+-- of a list that begins with an item, what stands behind a prefix that is not empty
 behind_one : (front more : List SegmentValue) (x : SegmentValue) (tail : List SegmentValue) → 1 ≤ length front
     → front ++ more ≡ x ∷ tail → EndsWith tail more
 behind_one [] more x tail some e = absurd (omega arith)

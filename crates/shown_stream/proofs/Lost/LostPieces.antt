@@ -259,7 +259,7 @@ abbrev pub there_at : List Sending → ℕ → List ℕ → List Bool
 there_at sendings from [] = []
 there_at sendings from (slot ∷ slots) = is_received_at sendings (slot - from) ∷ there_at sendings from slots
 
--- behind a front it is as in the rest
+-- behind a prefix it is as in the rest
 there_behind : (front rest : List Sending) (k : ℕ)
     → is_received_at (front ++ rest) (length front + k) ≡ is_received_at rest k
 there_behind [] rest k = let same : 0 + k ≡ k = omega arith in ap (is_received_at rest) same

@@ -14,7 +14,7 @@ all_of come = list_all (λ b. b) come
 abbrev pub some_of : List Bool → Bool
 some_of come = list_any (λ b. b) come
 
--- ---- fronts of flags
+-- ---- prefixes of flags
 
 one_more : (n k : ℕ) → suc n + k ≡ suc (n + k)
 one_more n k = omega arith

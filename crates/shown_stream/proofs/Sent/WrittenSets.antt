@@ -197,7 +197,7 @@ bytes_with page time units =
       bytes_of_packets time (mapped_units page units),
     )
 
--- of a list that ends with an item, a front that is not all of it, and what is behind
+-- of a list that ends with an item, a prefix that is not all of it, and what is behind
 record FrontOf {X : Type 0} (front behind all : List X) (last : X) : Type 0 where
   rest : List X
   before : all ≡ front ++ rest

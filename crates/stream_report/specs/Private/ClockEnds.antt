@@ -15,7 +15,7 @@ use Rattle.stream_report.specs.declared.levels_words.Arrival.TheVariants as arri
 abbrev pub told_by_clock : Following → Telling
 told_by_clock followed = tells_of arrival.Clock followed.levels.meter.asked
 
--- the text of all packets was put out; or memory is wanting, and nothing was written, or a front of the text
+-- the text of all packets was put out; or memory is wanting, and nothing was written, or a prefix of the text
 pub record FinishesByClock (followed : Following) (out next : Received) (buffer new : Buffered) (ended : WalkEnd)
     (wanting : Bool) : Type 0 where
   pub told : wanting ≡ false → FinishesTold (HasFollowed followed) (told_by_clock followed) out next buffer new ended

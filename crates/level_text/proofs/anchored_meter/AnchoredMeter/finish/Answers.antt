@@ -1,7 +1,7 @@
 -- The stream has not ended.
 use Rattle.std.proofs.Common.{Bool, sym, subst}
 use Rattle.level_text.specs.Anchoring.{FinishesTimed}
-use Rattle.level_text.proofs.AnchorLaws.{unfinished}
+use Rattle.level_text.proofs.AnchorEndLaws.{unfinished}
 use Rattle.level_text.proofs.anchored_meter.AnchoredMeter.finish.Goals as goal
 
 pub returns-else-ended-clause-told : goal.returns-else-ended-clause-told

@@ -2,7 +2,8 @@
 use Rattle.std.proofs.Common.{◌≡◌, ◌∙◌, false, true, Some, ap, sym, subst}
 use Rattle.decoder_model.specs.Received.{Reception}
 use Rattle.level_text.specs.Anchoring.{Anchoring, FinishesTimed}
-use Rattle.level_text.proofs.AnchorLaws.{finished_timed, finished_untold, found_where}
+use Rattle.level_text.proofs.AnchorEndLaws.{finished_timed, finished_untold}
+use Rattle.level_text.proofs.AnchorLaws.{found_where}
 use Rattle.level_text.proofs.anchored_meter.AnchoredMeter.finish_sets.Goals as goal
 use Rattle.level_text.proofs.anchored_meter.AnchoredMeter.finish_sets.Goals.{in-Some-1, in-None-1}
 

@@ -1,6 +1,7 @@
-use super::*;
-use crate::names::{behind_link, new_path};
-use crate::output::Output;
+use crate::same::same;
+use program_files::{
+    FileNumbers, Output, OutputKind, is_input, is_kept, numbers_of, opened, output_name, word_at,
+};
 use std::fs;
 use std::io::Write;
 use std::os::unix::fs::symlink;
@@ -12,13 +13,17 @@ use sub_base::Words;
 fn outputs_are_kept_by_their_codes(rt: HostRuntime) -> Result<(), Fail> {
     for code in 0..9_u8 {
         for has_written in [false, true] {
-            assert_eq!(rt; is_kept(OutputKind::Whole, code, has_written), code == 0);
+            same(
+                &rt,
+                is_kept(OutputKind::Whole, code, has_written),
+                code == 0,
+            );
             let is_told = code == 0 || code == 4 || code == 5 || code == 8;
-            assert_eq!(rt; is_kept(OutputKind::Told, code, has_written), is_told);
+            same(&rt, is_kept(OutputKind::Told, code, has_written), is_told);
         }
-        assert_eq!(rt; is_kept(OutputKind::Tool, code, false), code == 0);
+        same(&rt, is_kept(OutputKind::Tool, code, false), code == 0);
         let has_part = code == 0 || code == 3 || code == 5 || code == 8;
-        assert_eq!(rt; is_kept(OutputKind::Tool, code, true), has_part);
+        same(&rt, is_kept(OutputKind::Tool, code, true), has_part);
     }
     Ok(())
 }
@@ -27,11 +32,11 @@ fn outputs_are_kept_by_their_codes(rt: HostRuntime) -> Result<(), Fail> {
 #[test]
 fn names_of_inputs_are_no_outputs(rt: HostRuntime) -> Result<(), Fail> {
     let out = Some("out");
-    assert_eq!(rt; output_name(out, Some("a"), Some("b")), out);
-    assert_eq!(rt; output_name(out, None, None), out);
-    assert_eq!(rt; output_name(out, Some("out"), Some("b")), None);
-    assert_eq!(rt; output_name(out, Some("a"), Some("out")), None);
-    assert_eq!(rt; output_name(None, Some("a"), None), None);
+    same(&rt, output_name(out, Some("a"), Some("b")), out);
+    same(&rt, output_name(out, None, None), out);
+    same(&rt, output_name(out, Some("out"), Some("b")), None);
+    same(&rt, output_name(out, Some("a"), Some("out")), None);
+    same(&rt, output_name(None, Some("a"), None), None);
     Ok(())
 }
 
@@ -51,39 +56,10 @@ fn words_are_found_by_their_places(rt: HostRuntime) -> Result<(), Fail> {
     let mut words = Words::make(rt.alloc());
     words.push("list")?;
     words.push("256")?;
-    assert_eq!(rt; word_at(&words, Some(0)), Some("list"));
-    assert_eq!(rt; word_at(&words, Some(1)), Some("256"));
-    assert_eq!(rt; word_at(&words, Some(2)), None);
-    assert_eq!(rt; word_at(&words, None), None);
-    Ok(())
-}
-
-#[test]
-fn new_files_stand_beside_the_output(rt: HostRuntime) -> Result<(), Fail> {
-    let cases = [
-        ("out.ts", 7, ".dvbsub-7.part"),
-        ("a/b/out.ts", 12, "a/b/.dvbsub-12.part"),
-        ("/out.ts", 0, "/.dvbsub-0.part"),
-    ];
-    for (path, number, wanted) in cases {
-        let new = new_path(rt.alloc(), path, number)?;
-        assert_eq!(rt; new.as_str(), wanted);
-    }
-    Ok(())
-}
-
-#[test]
-fn links_lead_from_the_folder_that_they_stand_in(rt: HostRuntime) -> Result<(), Fail> {
-    let cases = [
-        ("out", "real", "real"),
-        ("a/out", "real", "a/real"),
-        ("a/out", "../real", "a/../real"),
-        ("a/out", "/b/real", "/b/real"),
-    ];
-    for (path, link, wanted) in cases {
-        let behind = behind_link(rt.alloc(), path, link)?;
-        assert_eq!(rt; behind.as_str(), wanted);
-    }
+    same(&rt, word_at(&words, Some(0)), Some("list"));
+    same(&rt, word_at(&words, Some(1)), Some("256"));
+    same(&rt, word_at(&words, Some(2)), None);
+    same(&rt, word_at(&words, None), None);
     Ok(())
 }
 
@@ -118,15 +94,65 @@ fn an_output_takes_the_place_of_what_was_there(rt: HostRuntime) -> Result<(), Fa
     output.write_all(b"text")?;
     assert!(rt; output.has_written());
     assert!(rt; !output.is_standard_output());
-    assert_eq!(rt; fs::read_to_string(&rt, out.as_str())?.as_str(), "old");
+    same(&rt, fs::read_to_string(&rt, out.as_str())?.as_str(), "old");
     output.finish()?;
-    assert_eq!(rt; fs::read_to_string(&rt, out.as_str())?.as_str(), "new text");
+    same(
+        &rt,
+        fs::read_to_string(&rt, out.as_str())?.as_str(),
+        "new text",
+    );
     assert!(rt; fs::symlink_metadata(&rt, link.as_str())?.is_symlink());
     // Finished without a byte it is empty.
     let mut output = Output::whole(&rt, Some(out.as_str()), None, None);
     assert!(rt; !output.has_written());
     output.finish()?;
-    assert_eq!(rt; fs::read_to_string(&rt, out.as_str())?.as_str(), "");
+    same(&rt, fs::read_to_string(&rt, out.as_str())?.as_str(), "");
+    fs::remove_dir_all(&rt, folder.as_str())?;
+    Ok(())
+}
+
+/// While an output is written, its bytes stand in a new file in the folder of what they are to
+/// replace; its name begins with a dot, and is gone once the output is finished.
+#[test]
+fn a_new_file_stands_beside_the_output(rt: HostRuntime) -> Result<(), Fail> {
+    let folder = folder_of(&rt, "beside")?;
+    let out = path_in(&rt, folder.as_str(), "out.ts")?;
+    let mut output = Output::whole(&rt, Some(out.as_str()), None, None);
+    output.write_all(b"new")?;
+    assert!(rt; has_new_file(&rt, folder.as_str())?);
+    output.finish()?;
+    assert!(rt; !has_new_file(&rt, folder.as_str())?);
+    fs::remove_dir_all(&rt, folder.as_str())?;
+    Ok(())
+}
+
+/// Whether a folder has a file that an output is written to.
+fn has_new_file(rt: &HostRuntime, folder: &str) -> Result<bool, Fail> {
+    for entry in fs::read_dir(rt, folder)? {
+        if entry?.file_name().starts_with(".dvbsub-") {
+            return Ok(true);
+        }
+    }
+    Ok(false)
+}
+
+/// A symbolic link leads on from the folder that it stands in, and from the root where it begins
+/// with a slash.
+#[test]
+fn links_lead_from_the_folder_that_they_stand_in(rt: HostRuntime) -> Result<(), Fail> {
+    let folder = folder_of(&rt, "links")?;
+    let out = path_in(&rt, folder.as_str(), "out")?;
+    let below = path_in(&rt, folder.as_str(), "below")?;
+    fs::create_dir(&rt, below.as_str())?;
+    let cases = [("up", "../out"), ("next", "up"), ("root", out.as_str())];
+    for (name, target) in cases {
+        let link = path_in(&rt, below.as_str(), name)?;
+        symlink(&rt, target, link.as_str())?;
+        let mut output = Output::whole(&rt, Some(link.as_str()), None, None);
+        output.write_all(name.as_bytes())?;
+        output.finish()?;
+        same(&rt, fs::read_to_string(&rt, out.as_str())?.as_str(), name);
+    }
     fs::remove_dir_all(&rt, folder.as_str())?;
     Ok(())
 }
@@ -166,7 +192,11 @@ fn an_input_is_not_written(rt: HostRuntime) -> Result<(), Fail> {
             assert!(rt; output.write(b"x").is_err());
         }
     }
-    assert_eq!(rt; fs::read_to_string(&rt, input.as_str())?.as_str(), "text");
+    same(
+        &rt,
+        fs::read_to_string(&rt, input.as_str())?.as_str(),
+        "text",
+    );
     fs::remove_dir_all(&rt, folder.as_str())?;
     Ok(())
 }
@@ -178,9 +208,9 @@ fn an_output_is_written_as_it_comes(rt: HostRuntime) -> Result<(), Fail> {
     let out = path_in(&rt, folder.as_str(), "out")?;
     let mut output = Output::as_it_comes(&rt, Some(out.as_str()), None, None);
     output.write_all(b"new")?;
-    assert_eq!(rt; fs::read_to_string(&rt, out.as_str())?.as_str(), "new");
+    same(&rt, fs::read_to_string(&rt, out.as_str())?.as_str(), "new");
     output.finish()?;
-    assert_eq!(rt; fs::read_to_string(&rt, out.as_str())?.as_str(), "new");
+    same(&rt, fs::read_to_string(&rt, out.as_str())?.as_str(), "new");
     fs::remove_dir_all(&rt, folder.as_str())?;
     Ok(())
 }
