@@ -9,7 +9,7 @@ use Rattle.bitmap_font.specs.declared.set_fault.SetFault.{SetFault}
 use Rattle.bitmap_font.specs.declared.set_fault.SetFault.TheVariants as sets
 use Rattle.bitmap_font.specs.Font.{FontValue, glyph_of}
 use Rattle.bitmap_font.specs.Past.{Line, counted, box_in}
-use Rattle.bitmap_font.specs.Reading.{fault_of, ends_font, font_lines, lines_before, line_at, AreRight, ListsFont, IsFont, IsRefusedLine}
+use Rattle.bitmap_font.specs.Reading.{fault_of, ends_font, font_lines, lines_before, line_at, AreValid, ListsFont, IsFont, IsRefusedLine}
 use Rattle.bitmap_font.specs.Refusal.{IsFontFault, IsFontRefusal, IsSetRefusal}
 use Rattle.bitmap_font.specs.Setting.{CanBeSet, AllCanBeSet, HasRoom, IsFirstMissing, IsSetFault, widest_line, line_after}
 
@@ -24,7 +24,7 @@ open_or_ended : (ended : Bool) → ended ≡ false → ended ≡ true → ⊥
 open_or_ended ended is_open is_end = let bad : false ≡ true = sym is_open ∙ is_end in cc
 
 -- no line before is wrong, and none is where the lines have no end
-not_before : (all : List Line) (n before : ℕ) (kind : FontKind) → AreRight all n → before < n →
+not_before : (all : List Line) (n before : ℕ) (kind : FontKind) → AreValid all n → before < n →
     fault_of (lines_before all before) (line_at all before) ≡ Some kind → ⊥
 not_before all n before kind right less wrong =
     right_or_wrong (fault_of (lines_before all before) (line_at all before)) kind (right.right before less) wrong

@@ -13,7 +13,7 @@ use Rattle.bitmap_font.specs.Font.{GlyphValue, FontValue, font_with}
 use Rattle.bitmap_font.specs.Words.{keyword_of}
 use Rattle.bitmap_font.specs.Past.{Line, line_of, OpenGlyph, Past, looking_back, counted, box_in, glyphs_in}
 use Rattle.bitmap_font.specs.LineFaults.{fault_by, ends_by}
-use Rattle.bitmap_font.specs.Reading.{fault_of, ends_font, font_lines, lines_before, line_at, AreRight, ListsFont, IsFont, IsRefusedLine}
+use Rattle.bitmap_font.specs.Reading.{fault_of, ends_font, font_lines, lines_before, line_at, AreValid, ListsFont, IsFont, IsRefusedLine}
 use Rattle.bitmap_font.specs.Private.Steps.{first_past, step}
 use Rattle.bitmap_font.specs.Private.Reader.{past_of, IsReader}
 use Rattle.bitmap_font.proofs.SettingLaws.{earlier-more}
@@ -106,10 +106,10 @@ fault-before : (before : List Line) (line : Line) → 0 < length before
 fault-before [] line some = absurd (omega arith)
 fault-before (last ∷ earlier) line some = refl
 
-AreRight-more : (all : List Line) (n : ℕ) → n < length all → AreRight all n
+AreValid-more : (all : List Line) (n : ℕ) → n < length all → AreValid all n
     → fault_of (lines_before all n) (line_at all n) ≡ None →
-    ends_font (lines_before all n) (line_at all n) ≡ false → AreRight all (n + 1)
-AreRight-more all n inside right now open_end = record {
+    ends_font (lines_before all n) (line_at all n) ≡ false → AreValid all (n + 1)
+AreValid-more all n inside right now open_end = record {
   there = omega arith;
   right = below_more (λ k. fault_of (lines_before all k) (line_at all k) ≡ None) n right.right now;
   open_end = below_more (λ k. ends_font (lines_before all k) (line_at all k) ≡ false) n right.open_end open_end;
@@ -147,7 +147,7 @@ first_wrong Other text e = refl
 -- the first n lines were read
 pub record HasRead (bytes : List ℕ) (n : ℕ) (left : List (List ℕ)) (reader : Reader) : Type 0 where
   pub lines_left : left ≡ drop n (lines bytes)
-  pub right : AreRight (font_lines bytes) n
+  pub right : AreValid (font_lines bytes) n
   pub is_reader : IsReader reader
   pub first : n ≡ 0 → past_of reader ≡ first_past
   pub later : 1 ≤ n → past_of reader ≡ looking_back (lines_before (font_lines bytes) n)
@@ -225,7 +225,7 @@ module _ (bytes : List ℕ) (n : ℕ) (left rest : List (List ℕ)) (text : List
   pub HasRead-first : n ≡ 0 → keyword_of text ≡ StartFont → HasRead bytes (n + 1) rest reader
   HasRead-first none keyword = record {
     lines_left = sym at.2;
-    right = AreRight-more all n inside before.right
+    right = AreValid-more all n inside before.right
         (ap (λ (lines_so_far : List Line). fault_of lines_so_far (line_at all n)) (none_before none)
         ∙ ap (fault_of []) this ∙ first_right (keyword_of text) text keyword)
         (ap (λ (lines_so_far : List Line). ends_font lines_so_far (line_at all n)) (none_before none)
@@ -245,7 +245,7 @@ module _ (bytes : List ℕ) (n : ℕ) (left rest : List (List ℕ)) (text : List
       ap (λ (past : Past). fault_by past (line_of text)) (sym was) ∙ ok in
       record {
         lines_left = sym at.2;
-        right = AreRight-more all n inside before.right (same_fault later ∙ ok) (same_end later ∙ open_end);
+        right = AreValid-more all n inside before.right (same_fault later ∙ ok) (same_end later ∙ open_end);
         is_reader = is_new;
         first = λ none. absurd (omega arith);
         later =

@@ -1,4 +1,4 @@
--- What looking back finds with one more right line.
+-- What looking back finds with one more valid line.
 use Rattle.std.proofs.Common.{◌≡◌, ◌∙◌, not, refl, ap, ℕ, Bool, true, false, if◌then◌else◌, List, ◌∷◌, Option, Some, None, is_some, nat_lt}
 use Rattle.std.proofs.lemmas.Bool.{lt-ltb}
 use Rattle.bitmap_font.specs.declared.keyword.Keyword.{Keyword}
@@ -175,7 +175,7 @@ step-by before keyword text false e ok =
     ∙ step-among (counted before) keyword text (in_glyph (counted before))
     (nat_lt 0 (rows_left (this_glyph (counted before)))) refl refl (rw e at ok))
 
--- the past after a right line
+-- the past after a valid line
 pub step-law : (before : List Line) (line : Line) → fault_by (looking_back before) line ≡ None
     → looking_back (line ∷ before) ≡ step (looking_back before) line
 step-law before line ok = step-by before line.keyword line.text (in_properties before) refl ok

@@ -28,32 +28,32 @@ lines_before all n = reverse (take n all)
 abbrev pub line_at : List Line → ℕ → Line
 line_at all n = slice_index_or all n (line_of [])
 
--- the first n lines are right, and none of them ends the font
-pub record AreRight (all : List Line) (n : ℕ) : Type 0 where
+-- the first n lines are valid, and none of them ends the font
+pub record AreValid (all : List Line) (n : ℕ) : Type 0 where
   pub there : n ≤ length all
   pub right : (k : ℕ) → k < n → fault_of (lines_before all k) (line_at all k) ≡ None
   pub open_end : (k : ℕ) → k < n → ends_font (lines_before all k) (line_at all k) ≡ false
 
--- the font that right lines list
+-- the font that valid lines list
 pub record ListsFont (seen : List Line) (font : FontValue) : Type 0 where
   pub bounds : BoundingBox
   pub given : box_in seen ≡ Some bounds
   pub is_font : font ≡ font_with bounds (glyphs_in seen)
 
--- the bytes are a font: its lines are right up to ENDFONT, and they list it
+-- the bytes are a font: its lines are valid up to ENDFONT, and they list it
 pub record IsFont (bytes : List ℕ) (font : FontValue) : Type 0 where
   pub last : ℕ
   pub there : last < length (font_lines bytes)
-  pub before : AreRight (font_lines bytes) last
+  pub before : AreValid (font_lines bytes) last
   pub right : fault_of (lines_before (font_lines bytes) last) (line_at (font_lines bytes) last) ≡ None
   pub end : ends_font (lines_before (font_lines bytes) last) (line_at (font_lines bytes) last) ≡ true
   pub lists : ListsFont (counted (lines_before (font_lines bytes) last)) font
 
--- a line, counted from 1, is the first that is wrong, for this kind of reason: or the lines are right but have no end
+-- a line, counted from 1, is the first that is faulty, for this kind of reason: or the lines are valid but have no end
 pub record IsRefusedLine (bytes : List ℕ) (line : ℕ) (kind : FontKind) : Type 0 where
   pub before : ℕ
   pub number : line ≡ before + 1
-  pub right : AreRight (font_lines bytes) before
+  pub right : AreValid (font_lines bytes) before
   pub wrong : ((before < length (font_lines bytes))
       × (fault_of (lines_before (font_lines bytes) before) (line_at (font_lines bytes) before) ≡ Some kind))
       ⊎ ((before ≡ length (font_lines bytes)) × (kind ≡ Truncated))

@@ -133,7 +133,7 @@ fn row_of(alloc: Global, text: &str) -> Option<ByteRecord> {
     }
 }
 
-/// What is wrong with a record; one that is right is taken.
+/// What is wrong with a record; one that is valid is taken.
 fn fault_of(
     alloc: Global,
     reader: &mut ScriptReader,

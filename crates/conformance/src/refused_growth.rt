@@ -15,7 +15,7 @@ fn is_cut_off(code: u8, out: &[u8], whole: &[u8]) -> bool {
     }
 }
 
-/// A command over right input is done, or has no memory; or its output has none, and so has failed.
+/// A command over valid input is done, or has no memory; or its output has none, and so has failed.
 /// It ends so wherever memory is refused: checks/refused_growth.py refuses each growth in turn.
 pub(crate) fn ends_with_or_without_memory<R: Threads + Sync + Abort>(
     rt: &R,

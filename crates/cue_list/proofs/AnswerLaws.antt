@@ -10,17 +10,17 @@ use Rattle.cue_list.specs.declared.script.Script.{Script}
 use Rattle.cue_list.specs.Past.{looking_back}
 use Rattle.cue_list.specs.Records.{Record, records_of, records_before, record_at}
 use Rattle.cue_list.specs.RowFaults.{fault_of}
-use Rattle.cue_list.specs.ScriptRows.{AreRightRecords, IsScript, IsRefusedRecord, IsScriptFault, AnswersScriptFault}
+use Rattle.cue_list.specs.ScriptRows.{AreValidRecords, IsScript, IsRefusedRecord, IsScriptFault, AnswersScriptFault}
 
 -- of two numbers one is less, or they are the same
 apart_or_same : (a b : ℕ) → (a < b) ⊎ ((b < a) ⊎ (a ≡ b))
 apart_or_same a b = grind arith
 
--- a right record is not wrong
+-- a valid record is not faulty
 right_or_wrong : (found : Option ScriptKind) (kind : ScriptKind) → found ≡ None → found ≡ Some kind → ⊥
 right_or_wrong found kind right wrong = let bad : None ≡ Some kind = sym right ∙ wrong in cc
 
-not_before : (font : FontValue) (all : List Record) (n before : ℕ) (kind : ScriptKind) → AreRightRecords font all n
+not_before : (font : FontValue) (all : List Record) (n before : ℕ) (kind : ScriptKind) → AreValidRecords font all n
     → before < n →
     fault_of font (records_before all before) (record_at all before) ≡ Some kind → ⊥
 not_before font all n before kind right less wrong =

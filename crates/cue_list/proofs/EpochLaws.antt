@@ -1,4 +1,4 @@
--- The epochs that right records list are right, one record after another.
+-- The epochs that valid records list are valid, one record after another.
 use Rattle.std.proofs.Common.{zero, suc, ◌≡◌, ◌≢◌, ◌∙◌, ◌⊎◌, inl, inr, refl, sym, ap, subst, ℕ, ◌+◌, ◌<◌, ◌≤◌, ◌==◌, Bool, true, false, nat_lt, nat_le, List, [], ◌∷◌, ◌++◌, length, get_or, find, cond, Option, Some, None, is_some, arith}
 use Rattle.std.specs.Prelude.{All, AllPairs, slice_get}
 use Rattle.std.specs.List.{list_any}
@@ -94,7 +94,7 @@ inside : (region : Region) (width height : ℕ) → lies_on width height region 
     → (region.x + region.width ≤ width) × (region.y + region.height ≤ height)
 inside region width height h = (grind (arith, nat_tests), grind (arith, nat_tests))
 
--- the cells of a right region
+-- the cells of a valid region
 pub record HasSides (region : Region) : Type 0 where
   pub numbers : (region.id ≤ 255) × (region.clut ≤ 255)
   pub sides : (1 ≤ region.width) × (1 ≤ region.height)
@@ -186,7 +186,7 @@ tick-range origin cell h =
     let range = number-range origin (origin + LONGEST_SCRIPT) cell h in
     record { late = range.0; early = range.1 }
 
--- a right colour
+-- a valid colour
 pub colour-row : (origin start number : ℕ) (cells : Row) → colour_cells origin cells ≡ None
     → nat_lt (colour_in number cells).entry (code_count (colour_in number cells).depth) ≡ true
     → start ≤ (colour_in number cells).tick

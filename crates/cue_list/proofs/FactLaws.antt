@@ -1,4 +1,4 @@
--- What the tests of a right record say of its values.
+-- What the tests of a valid record say of its values.
 use Rattle.std.proofs.Common.{◌≡◌, refl, ℕ, ◌+◌, ◌≤◌, ◌==◌, Bool, true, false, not, ◌&&◌, ◌||◌, nat_lt, nat_le, List, [], ◌∷◌, Option, Some, None, is_some, arith}
 use Rattle.std.specs.List.{list_any}
 use Rattle.std.proofs.lemmas.Bool.Decides.{nat_tests}
@@ -43,8 +43,8 @@ pub both-false : (a b : Bool) → (a || b) ≡ false → (a ≡ false) × (b ≡
 both-false true b h = absurd (let never : true ≡ false = h in cc)
 both-false false b h = (refl, h)
 
--- a right record stands in its place, has room, and its cells and its kind's tests are right
-pub record IsRightRow (font : FontValue) (past : ScriptPast) (kind : RowKind) (number : ℕ) (cells : Row) : Type 0 where
+-- a valid record stands in its place, has room, and its cells and its kind's tests are valid
+pub record IsValidRow (font : FontValue) (past : ScriptPast) (kind : RowKind) (number : ℕ) (cells : Row) : Type 0 where
   pub placed : is_misplaced past kind ≡ false
   pub room : is_full past kind ≡ false
   pub cells_right : cells_fault past.origin kind cells ≡ None
@@ -52,7 +52,7 @@ pub record IsRightRow (font : FontValue) (past : ScriptPast) (kind : RowKind) (n
 
 pub IsRightRow-from : (font : FontValue) (past : ScriptPast) (kind : RowKind) (number : ℕ) (cells : Row)
     → fault_with font past (record { number = number; kind = kind; cells = cells }) ≡ None
-    → IsRightRow font past kind number cells
+    → IsValidRow font past kind number cells
 IsRightRow-from font past kind number cells h =
     let shape = passed (shape_fault kind cells) _ h in
     let place = right (is_misplaced past kind) faults.Order _ shape.1 in
@@ -65,7 +65,7 @@ IsRightRow-from font past kind number cells h =
       content = (passed (kind_fault font past kind number cells) [] read.1).0;
     }
 
--- a right number lies in its range
+-- a valid number lies in its range
 pub number-range : (least most : ℕ) (cell : List ℕ) → number_fault least most cell ≡ None
     → (least ≤ value_of cell) × (value_of cell ≤ most)
 unfolding number_fault
@@ -85,7 +85,7 @@ number-range least most cell h =
     most-of : nat_le (value_of cell) most ≡ true → value_of cell ≤ most
     most-of e = grind (arith, nat_tests)
 
--- a right epoch
+-- a valid epoch
 pub epoch-right : (past : ScriptPast) (start : ℕ) → epoch_fault past start ≡ None
     → (starts_before start past.epoch ≡ true) × (lasts_past start past.epoch ≡ false)
     × (past.is_near start ≡ false)
@@ -96,7 +96,7 @@ epoch-right past start h =
     let third = right (past.is_near start) faults.TooClose [] second.1 in
     (not-false _ first.0, second.0, third.0)
 
--- a right region
+-- a valid region
 pub region-right : (past : ScriptPast) (region : Region) → region_fault past region ≡ None
     → (is_some (region_with region.id (regions_of past.epoch)) ≡ false)
     × (lies_on past.width past.height region ≡ true)
@@ -108,7 +108,7 @@ region-right past region h =
     let third = right (list_any (share_row region) (regions_of past.epoch)) faults.RegionsMeet [] second.1 in
     (first.0, not-false _ second.0, third.0)
 
--- a right colour
+-- a valid colour
 pub colour-right : (past : ScriptPast) (row : ColourRow) → colour_fault past row ≡ None
     → (nat_lt row.entry (code_count row.depth) ≡ true) × (is_early row.tick past.epoch ≡ false)
     × (past.is_near row.tick ≡ false)
@@ -119,8 +119,8 @@ colour-right past row h =
     let third = right (past.is_near row.tick) faults.TooClose [] second.1 in
     (not-false _ first.0, second.0, third.0)
 
--- a right span
-pub record IsRightSpan (past : ScriptPast) (start end : ℕ) : Type 0 where
+-- a valid span
+pub record IsValidSpan (past : ScriptPast) (start end : ℕ) : Type 0 where
   pub within : is_early start past.epoch ≡ false
   pub lasts : nat_le end start ≡ false
   pub short : nat_lt (start + LONGEST_CUE) end ≡ false
@@ -128,7 +128,7 @@ pub record IsRightSpan (past : ScriptPast) (start end : ℕ) : Type 0 where
   pub end_far : past.is_near end ≡ false
   pub apart : is_close start end ≡ false
 
-pub span-right : (past : ScriptPast) (start end : ℕ) → span_fault past start end ≡ None → IsRightSpan past start end
+pub span-right : (past : ScriptPast) (start end : ℕ) → span_fault past start end ≡ None → IsValidSpan past start end
 unfolding span_fault
 span-right past start end h =
     let first = right (is_early start past.epoch) faults.OutsideEpoch _ h in
@@ -139,19 +139,19 @@ span-right past start end h =
     let far = both-false (past.is_near start) (past.is_near end) apart.0 in
     record { within = first.0; lasts = second.0; short = third.0; start_far = far.0; end_far = far.1; apart = apart.1 }
 
--- a right place or cue: its region, and its picture's depth and sides
-pub record IsRightPlacing (past : ScriptPast) (placing : PlaceRow) (region : Region) (head : PictureHead) : Type 0 where
+-- a valid place or cue: its region, and its picture's depth and sides
+pub record IsValidPlacing (past : ScriptPast) (placing : PlaceRow) (region : Region) (head : PictureHead) : Type 0 where
   pub found : region_with placing.region (regions_of past.epoch) ≡ Some region
   pub inside : has_room_at region placing.x placing.y head ≡ true
   pub shallow : bits_of head.depth ≤ bits_of region.depth
-  pub span : IsRightSpan past placing.start placing.end
+  pub span : IsValidSpan past placing.start placing.end
 
 not-deeper : (a b : ℕ) → nat_lt a b ≡ false → b ≤ a
 not-deeper a b h = grind (arith, nat_tests)
 
 placed-right : (past : ScriptPast) (placing : PlaceRow) (region : Option Region) (head : Option PictureHead)
     → region_with placing.region (regions_of past.epoch) ≡ region → placed_fault past placing region head ≡ None
-    → (r : Region) × (h : PictureHead) × (head ≡ Some h) × IsRightPlacing past placing r h
+    → (r : Region) × (h : PictureHead) × (head ≡ Some h) × IsValidPlacing past placing r h
 placed-right past placing None head is h = absurd (let never : Some faults.NoRegion ≡ None = h in cc)
 placed-right past placing (Some region) None is h = absurd (let never : Some faults.NoPicture ≡ None = h in cc)
 placed-right past placing (Some region) (Some head) is h =
@@ -171,14 +171,14 @@ placed-right past placing (Some region) (Some head) is h =
 
 pub place-right : (past : ScriptPast) (placing : PlaceRow) (name : List ℕ) → place_fault past placing name ≡ None
     → (r : Region) × (h : PictureHead) × (head_at past.heads (past.named name) ≡ Some h)
-    × IsRightPlacing past placing r h
+    × IsValidPlacing past placing r h
 unfolding place_fault
 place-right past placing name h = placed-right past placing _ _ refl h
 
 set-right : (font : FontValue) (past : ScriptPast) (placing : PlaceRow) (ink paper : ℕ) (characters : List ℕ)
     (region : Option Region) → region_with placing.region (regions_of past.epoch) ≡ region
     → set_fault font past placing ink paper characters region ≡ None
-    → (r : Region) × IsRightPlacing past placing r (text_head font r.depth characters)
+    → (r : Region) × IsValidPlacing past placing r (text_head font r.depth characters)
     × (are_too_many past (text_head font r.depth characters) ≡ false)
 unfolding text_head
 set-right font past placing ink paper characters None is h =
@@ -217,7 +217,7 @@ set-right font past placing ink paper characters (Some region) is h =
 
 pub cue-right : (font : FontValue) (past : ScriptPast) (placing : PlaceRow) (ink paper : ℕ) (characters : List ℕ)
     → cue_fault font past placing ink paper characters ≡ None
-    → (r : Region) × IsRightPlacing past placing r (text_head font r.depth characters)
+    → (r : Region) × IsValidPlacing past placing r (text_head font r.depth characters)
     × (are_too_many past (text_head font r.depth characters) ≡ false)
 unfolding cue_fault
 cue-right font past placing ink paper characters h = set-right font past placing ink paper characters _ refl h

@@ -1,4 +1,4 @@
--- The first tick of a right row is the number in its second cell.
+-- The first tick of a valid row is the number in its second cell.
 use Rattle.std.proofs.Common.{◌≡◌, refl, ap, sym, ◌∙◌, ℕ, Bool, true, false, not, List, [], ◌∷◌, Option, Some, None}
 use Rattle.bitmap_font.specs.Font.{FontValue}
 use Rattle.sub_base.specs.Number.{number_of, is_number}
@@ -76,7 +76,7 @@ by-kind past kinds.Place cells right = place-read past.origin cells right
 by-kind past kinds.Cue cells right = cue-read past.origin cells right
 by-kind past kinds.Other cells right = refl
 
--- the first tick of a right row is read from its second cell
+-- the first tick of a valid row is read from its second cell
 pub first-read : (font : FontValue) (past : ScriptPast) (number : ℕ) (cells : Row)
     → fault_with font past (record_of number cells) ≡ None
     → tick_read past (kind_of (cell_at cells 0)) cells ≡ first_tick past (kind_of (cell_at cells 0)) cells

@@ -20,7 +20,7 @@ use Rattle.cue_list.specs.Past.{ScriptPast, looking_back, last_epoch, regions_in
 use Rattle.cue_list.specs.Records.{Record, records_of, records_from as numbered, record_of, records_before, record_at}
 use Rattle.cue_list.specs.RowFaults.{fault_with, fault_of, is_misplaced, regions_of}
 use Rattle.cue_list.specs.Rows.{Row, rows_of}
-use Rattle.cue_list.specs.ScriptRows.{AreRightRecords, AreDrawn, IsRefusedRecord}
+use Rattle.cue_list.specs.ScriptRows.{AreValidRecords, AreDrawn, IsRefusedRecord}
 use Rattle.cue_list.specs.Private.State.{IsReader, past_of, next_with}
 use Rattle.cue_list.proofs.PastLaws.{looking-back-more, regions-last}
 
@@ -113,7 +113,7 @@ not-none : {A : Type 0} (o : Option A) → not (is_some o) ≡ false → is_some
 not-none None h = absurd (let never : true ≡ false = h in cc)
 not-none (Some x) h = refl
 
--- a right cue stands in an epoch
+-- a valid cue stands in an epoch
 pub cue-open : (font : FontValue) (past : ScriptPast) (kind : RowKind) (number : ℕ) (cells : Row)
     → fault_with font past (record { number = number; kind = kind; cells = cells }) ≡ None → kind ≡ kinds.Cue
     → is_some past.epoch ≡ true
@@ -138,9 +138,9 @@ brings-with font first second kinds.Cue cells old new same brings =
     subst (λ (regions : List Region). Brings font regions kinds.Cue cells old new) (same refl) brings
 brings-with font first second kinds.Other cells old new same brings = brings
 
-AreRight-more : (font : FontValue) (all : List Record) (n : ℕ) → n < length all → AreRightRecords font all n
-    → fault_of font (records_before all n) (record_at all n) ≡ None → AreRightRecords font all (n + 1)
-AreRight-more font all n within right now = record {
+AreValid-more : (font : FontValue) (all : List Record) (n : ℕ) → n < length all → AreValidRecords font all n
+    → fault_of font (records_before all n) (record_at all n) ≡ None → AreValidRecords font all (n + 1)
+AreValid-more font all n within right now = record {
   there = omega arith;
   right = below_more (λ k. fault_of font (records_before all k) (record_at all k) ≡ None) n right.right now;
 }
@@ -200,7 +200,7 @@ module _ (bytes : List ℕ) (font : FontValue) (left rest : List Row) (kept : Re
     wrong = inl (within, fault-is ∙ wrong);
   }
 
-  -- a record that is right
+  -- a record that is valid
   pub HasRead-next : (new : Reader) → IsReader new → fault_with font (past_of kept) row ≡ None
       → past_of new ≡ next_with font (past_of kept) row
       → Brings font (regions_of kept.epoch) row.kind cells kept.pictures.items new.pictures.items
@@ -232,8 +232,8 @@ module _ (bytes : List ℕ) (font : FontValue) (left rest : List Row) (kept : Re
       record {
         left_is = sym at.2 ∙ ap (λ (n : ℕ). drop n (rows_of bytes)) (sym count);
         right =
-            subst (AreRightRecords font all) (sym count)
-            (AreRight-more font all kept.rows within read.right (fault-is ∙ right));
+            subst (AreValidRecords font all) (sym count)
+            (AreValid-more font all kept.rows within read.right (fault-is ∙ right));
         reader = reader;
         stands = stands ∙ ap (looking_back font) (sym at_new);
         drawn = subst (λ (rows : List Record). AreDrawn font rows new.pictures.items) (sym at_new) drawn;
@@ -253,7 +253,7 @@ all-read bytes font left kept read none =
     let there = read.right.there in
     nothing_left (rows_of bytes) kept.rows (omega arith) (sym read.left_is ∙ none) ∙ sym same
 
--- all records are right, and none starts an epoch
+-- all records are valid, and none starts an epoch
 pub IsRefused-whole : (bytes : List ℕ) (font : FontValue) (left : List Row) (kept : Reader)
     → HasRead bytes font left kept → left ≡ [] → kept.epoch ≡ None
     → IsRefusedRecord bytes font (kept.rows + 1) faults.Order

@@ -1,4 +1,4 @@
--- The values of a right script are sound.
+-- The values of a valid script are sound.
 use Rattle.std.proofs.Common.{zero, suc, ◌≡◌, ◌∙◌, inl, inr, refl, sym, ap, subst, ℕ, ◌+◌, ◌*◌, ◌<◌, ◌≤◌, ◌==◌, true, false, not, List, [], ◌∷◌, ◌++◌, length, map, get_or, sum_by, Option, Some, None, is_some, arith}
 use Rattle.std.specs.Prelude.{All, slice_get}
 use Rattle.std.specs.List.{list_any, flat_map}
@@ -25,7 +25,7 @@ use Rattle.cue_list.specs.Records.{Record, cells_of, records_of, records_before,
 use Rattle.cue_list.specs.RowFaults.{fault_with, fault_of, shape_fault}
 use Rattle.cue_list.specs.RowValues.{colour_in, placing_in}
 use Rattle.cue_list.specs.Rows.{Row}
-use Rattle.cue_list.specs.ScriptRows.{AreRightRecords, AreDrawn, Lists, IsScript}
+use Rattle.cue_list.specs.ScriptRows.{AreValidRecords, AreDrawn, Lists, IsScript}
 use Rattle.cue_list.specs.Authored.{picture_at_place}
 use Rattle.cue_list.specs.Sound.{IsSoundScript, IsEpoch, IsCue, IsColourRow, IsRegion, Follows, ticks_of}
 use Rattle.cue_list.specs.Private.State.{IsReader, past_of, head_of, next_with}
@@ -104,13 +104,13 @@ sound-none font = record {
   cues_counted = omega arith;
 }
 
-pub sound-rows : (font : FontValue) (all : List Record) (n : ℕ) → AreRightRecords font all n
+pub sound-rows : (font : FontValue) (all : List Record) (n : ℕ) → AreValidRecords font all n
     → SoundPast (looking_back font (records_before all n)) (ticks_in (records_before all n))
 sound-rows font all zero right_rows = sound-none font
 sound-rows font all (suc n) right_rows =
     let there = right_rows.there in
     let within : n < length all = omega arith in
-    let fewer : AreRightRecords font all n =
+    let fewer : AreValidRecords font all n =
     record { there = omega arith; right = λ k below. right_rows.right k (omega arith) } in
     let one : suc n ≡ n + 1 = omega arith in
     let more : records_before all (suc n) ≡ record_at all n ∷ records_before all n =
@@ -277,7 +277,7 @@ IsSound-kept kept ticks reader sound some whole counted = with-epoch kept.epoch 
           small = omega arith;
         }
 
--- what a reader keeps after right records is sound
+-- what a reader keeps after valid records is sound
 pub IsSound-read : (bytes : List ℕ) (font : FontValue) (left : List Row) (kept : Reader)
     → HasRead bytes font left kept → is_some kept.epoch ≡ true
     → IsSoundScript kept.origin kept.width kept.height (90000 * kept.seconds) (with_last kept.ended.items kept.epoch)
@@ -314,7 +314,7 @@ IsScript-read bytes font kept read some =
       pictures_are = read.drawn;
     } in
     record {
-      right = subst (AreRightRecords font all) count read.right;
+      right = subst (AreValidRecords font all) count read.right;
       lists =
           subst (λ (n : ℕ). Lists font (records_before all n) kept.origin kept.width kept.height
           (90000 * kept.seconds) (with_last kept.ended.items kept.epoch) kept.pictures.items) count lists;

@@ -41,14 +41,14 @@ Found-find p (first ∷ xs) x found = found_in p first x xs (p first) refl found
 pub decide_le : (a b : ℕ) → ((a ≤ b → ⊥) → ⊥) → a ≤ b
 decide_le a b not_not = elim (lt_or_le b a) [ inl above ↦ absurd (not_not (λ le. omega arith)) | inr le ↦ le ]
 
--- the regions of a right epoch lie on the display
+-- the regions of a valid epoch lie on the display
 pub region_within : (origin width height : ℕ) (pictures : List Picture) (epoch : Epoch) (k : ℕ) (other : Region) →
     IsEpoch origin width height pictures epoch → k < length epoch.regions
     → IsRegion width height (get_or epoch.regions k other)
 region_within origin width height pictures epoch k other right inside =
     All-get_or (IsRegion width height) epoch.regions k other inside right.regions.each
 
--- an epoch that is found is one of the script's, and right
+-- an epoch that is found is one of the script's, and valid
 pub epoch_is_right : (origin width height refresh : ℕ) (epochs : List Epoch) (pictures : List Picture) (tick : ℕ)
     (epoch : Epoch) →
     IsSoundScript origin width height refresh epochs pictures → epoch_at epochs tick ≡ Some epoch
@@ -113,7 +113,7 @@ region_named regions k other found name apart inside names is_found =
     same_number : (a b : ℕ) → (a == b) ≡ true → a ≡ b
     same_number a b equal = grind (arith, nat_tests)
 
--- the cues of a right epoch that name one of its regions fit in it
+-- the cues of a valid epoch that name one of its regions fit in it
 pub cues_fit : (origin width height : ℕ) (pictures : List Picture) (epoch : Epoch) (k : ℕ) (other : Region) →
     All IsPicture pictures → IsEpoch origin width height pictures epoch → k < length epoch.regions
     → AreCuesOf pictures (get_or epoch.regions k other) epoch.cues

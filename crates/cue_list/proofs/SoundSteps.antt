@@ -1,4 +1,4 @@
--- One more right record keeps what is true of a script's values.
+-- One more valid record keeps what is true of a script's values.
 use Rattle.std.proofs.Common.{◌≡◌, ◌∙◌, refl, sym, ap, subst, ℕ, ◌+◌, ◌<◌, ◌≤◌, ◌==◌, Bool, true, false, not, if◌then◌else◌, nat_lt, nat_le, List, [], ◌∷◌, ◌++◌, length, chars, sum_by, Option, Some, None, is_some, option_map, arith}
 use Rattle.std.specs.Prelude.{slice_get}
 use Rattle.std.specs.List.{list_any}
@@ -19,12 +19,12 @@ use Rattle.cue_list.specs.Rows.{Row}
 use Rattle.cue_list.specs.Sound.{IsTick}
 use Rattle.cue_list.specs.Private.State.{next_with, with_region, with_colour, with_cue}
 use Rattle.cue_list.specs.TextSizes.{text_head}
-use Rattle.cue_list.proofs.FactLaws.{IsRightRow, IsRightPlacing, passed, both-false, number-range, epoch-right, region-right, colour-right, place-right, cue-right}
+use Rattle.cue_list.proofs.FactLaws.{IsValidRow, IsValidPlacing, passed, both-false, number-range, epoch-right, region-right, colour-right, place-right, cue-right}
 use Rattle.cue_list.proofs.EpochLaws.{IsCueOf, epoch-region, epoch-colour, epoch-cue, region-cells, colour-row, tick-range, get-last}
 use Rattle.cue_list.proofs.PastLaws.{row_with}
 use Rattle.cue_list.proofs.SoundLaws.{EpochFacts, EpochFacts-none, EpochFacts-new, EpochFacts-changed, EpochFacts-heads, TickFacts, TickFacts-new, TickFacts-same, TickFacts-colour, TickFacts-cue, colours_of, cues_of, in_last, sum-last, length-push}
 
--- what is true of what is found by looking back over right records that name these ticks
+-- what is true of what is found by looking back over valid records that name these ticks
 pub record SoundPast (past : ScriptPast) (ticks : List ℕ) : Type 0 where
   pub display : 2 ≤ past.rows → (1 ≤ past.width) × (past.width ≤ 1920) × (1 ≤ past.height)
       × (past.height ≤ 1080)
@@ -88,7 +88,7 @@ placing-ticks origin cells h =
 
 placed-cue : (past : ScriptPast) (epoch : Epoch) (number k : ℕ) (cells : Row) (through : Bool) (region : Region)
     (head : PictureHead) (heads : List PictureHead) → past.epoch ≡ Some epoch
-    → IsRightPlacing past (placing_in cells) region head → IsTick past.origin (placing_in cells).start
+    → IsValidPlacing past (placing_in cells) region head → IsTick past.origin (placing_in cells).start
     × IsTick past.origin (placing_in cells).end → slice_get heads k ≡ Some head
     → IsCueOf past.origin epoch.start epoch.regions heads (cue_with number cells k through)
 placed-cue past epoch number k cells through region head heads is placed ticks drawn =
@@ -119,7 +119,7 @@ changed-epoch past change epoch is = ap (option_map change) is
 -- ---- each kind
 
 pub sound-origin : (font : FontValue) (past : ScriptPast) (ticks : List ℕ) (number : ℕ) (cells : Row)
-    → SoundPast past ticks → IsRightRow font past kinds.Origin number cells
+    → SoundPast past ticks → IsValidRow font past kinds.Origin number cells
     → SoundPast (next_with font past (row_with kinds.Origin number cells)) ticks
 sound-origin font past ticks number cells sound row =
     let none : past.rows ≡ 0 = is-same past.rows 0 row.placed in
@@ -136,7 +136,7 @@ sound-origin font past ticks number cells sound row =
     }
 
 pub sound-display : (font : FontValue) (past : ScriptPast) (ticks : List ℕ) (number : ℕ) (cells : Row)
-    → SoundPast past ticks → IsRightRow font past kinds.Display number cells
+    → SoundPast past ticks → IsValidRow font past kinds.Display number cells
     → SoundPast (next_with font past (row_with kinds.Display number cells)) ticks
 unfolding display_cells
 sound-display font past ticks number cells sound row =
@@ -158,7 +158,7 @@ sound-display font past ticks number cells sound row =
     }
 
 pub sound-refresh : (font : FontValue) (past : ScriptPast) (ticks : List ℕ) (number : ℕ) (cells : Row)
-    → SoundPast past ticks → IsRightRow font past kinds.Refresh number cells
+    → SoundPast past ticks → IsValidRow font past kinds.Refresh number cells
     → SoundPast (next_with font past (row_with kinds.Refresh number cells)) ticks
 unfolding refresh_cells
 sound-refresh font past ticks number cells sound row =
@@ -186,7 +186,7 @@ room-epochs ended None h = not-least _ _ h
 room-epochs ended (Some epoch) h = not-least _ _ h
 
 pub sound-epoch : (font : FontValue) (past : ScriptPast) (ticks : List ℕ) (number : ℕ) (cells : Row)
-    → SoundPast past ticks → IsRightRow font past kinds.Epoch number cells
+    → SoundPast past ticks → IsValidRow font past kinds.Epoch number cells
     → ((t : ℕ) → past.is_near t ≡ list_any (is_close t) ticks)
     → SoundPast (next_with font past (row_with kinds.Epoch number cells)) (value_at cells 1 ∷ ticks)
 unfolding epoch_cells
@@ -222,7 +222,7 @@ unused : (epoch : Epoch) → is_used (Some epoch) ≡ false → epoch.cues ≡ [
 unused epoch h = no-cues epoch.cues (both-false (nat_lt 0 (length epoch.colours)) (nat_lt 0 (length epoch.cues)) h).1
 
 pub sound-region : (font : FontValue) (past : ScriptPast) (ticks : List ℕ) (number : ℕ) (cells : Row)
-    → SoundPast past ticks → IsRightRow font past kinds.Region number cells
+    → SoundPast past ticks → IsValidRow font past kinds.Region number cells
     → SoundPast (next_with font past (row_with kinds.Region number cells)) ticks
 sound-region font past ticks number cells sound row =
     let place = both-false (not (is_some past.epoch)) (is_used past.epoch) row.placed in
@@ -273,7 +273,7 @@ sound-region font past ticks number cells sound row =
     }
 
 pub sound-colour : (font : FontValue) (past : ScriptPast) (ticks : List ℕ) (number : ℕ) (cells : Row)
-    → SoundPast past ticks → IsRightRow font past kinds.Colour number cells
+    → SoundPast past ticks → IsValidRow font past kinds.Colour number cells
     → ((t : ℕ) → past.is_near t ≡ list_any (is_close t) ticks)
     → SoundPast (next_with font past (row_with kinds.Colour number cells)) ((colour_in number cells).tick ∷ ticks)
 sound-colour font past ticks number cells sound row near =
@@ -322,7 +322,7 @@ sound-colour font past ticks number cells sound row near =
     }
 
 pub sound-picture : (font : FontValue) (past : ScriptPast) (ticks : List ℕ) (number : ℕ) (cells : Row)
-    → SoundPast past ticks → IsRightRow font past kinds.Picture number cells
+    → SoundPast past ticks → IsValidRow font past kinds.Picture number cells
     → SoundPast (next_with font past (row_with kinds.Picture number cells)) ticks
 sound-picture font past ticks number cells sound row =
     let three : 3 ≤ past.rows = not-less past.rows 3 row.placed in
@@ -391,7 +391,7 @@ append-none [] = refl
 append-none (x ∷ xs) = ap (λ ys. x ∷ ys) (append-none xs)
 
 pub sound-place : (font : FontValue) (past : ScriptPast) (ticks : List ℕ) (number : ℕ) (cells : Row)
-    → SoundPast past ticks → IsRightRow font past kinds.Place number cells
+    → SoundPast past ticks → IsValidRow font past kinds.Place number cells
     → ((t : ℕ) → past.is_near t ≡ list_any (is_close t) ticks)
     → SoundPast (next_with font past (row_with kinds.Place number cells))
     ((placing_in cells).start ∷ (placing_in cells).end ∷ ticks)
@@ -430,7 +430,7 @@ region-head font regions cells region found =
     ap (option_map (λ (r : Region). text_head font r.depth (chars (cell_at cells 8)))) found
 
 pub sound-cue : (font : FontValue) (past : ScriptPast) (ticks : List ℕ) (number : ℕ) (cells : Row)
-    → SoundPast past ticks → IsRightRow font past kinds.Cue number cells
+    → SoundPast past ticks → IsValidRow font past kinds.Cue number cells
     → ((t : ℕ) → past.is_near t ≡ list_any (is_close t) ticks)
     → SoundPast (next_with font past (row_with kinds.Cue number cells))
     ((placing_in cells).start ∷ (placing_in cells).end ∷ ticks)

@@ -20,7 +20,7 @@ use Rattle.cue_list.specs.Past.{ScriptPast, area, looking_back, last_epoch, regi
 use Rattle.cue_list.specs.Records.{Record, kind_of, record_of, record_at, records_from, records_before}
 use Rattle.cue_list.specs.RowFaults.{fault_of, fault_with, regions_of}
 use Rattle.cue_list.specs.Rows.{Row, rows_of}
-use Rattle.cue_list.specs.ScriptRows.{AreDrawn, AreRightRecords, Lists}
+use Rattle.cue_list.specs.ScriptRows.{AreDrawn, AreValidRecords, Lists}
 use Rattle.cue_list.specs.Sound.{IsSoundScript}
 use Rattle.cue_list.specs.TakenRows.{CanGoBack, IsRecordFault, IsScriptOf, Kept, Mark, StandsFor, TakesRow, heads_of, nearest, next_fault, numbered, without_heads}
 use Rattle.cue_list.specs.Private.State.{IsReader, IsRowFault, next_with, past_of, head_of}
@@ -134,8 +134,8 @@ module _ (font : FontValue) (rows : List Row) (cells : Row) where
   at-last =
       ap (λ (n : ℕ). record_at new_all n) (sym long) ∙ get_or-append_seam old_all row [] (record_of 0 [])
 
-  right-more : AreRightRecords font old_all (length rows) → next_fault font rows cells ≡ None
-      → AreRightRecords font (numbered (rows ++ cells ∷ [])) (length (rows ++ cells ∷ []))
+  right-more : AreValidRecords font old_all (length rows) → next_fault font rows cells ≡ None
+      → AreValidRecords font (numbered (rows ++ cells ∷ [])) (length (rows ++ cells ∷ []))
   right-more old now =
       let count = length-more rows cells in
       let counted = length-numbered 1 (rows ++ cells ∷ []) in
@@ -403,7 +403,7 @@ IsScriptOf-stands font rows kept script stands some origin width height refresh 
       pictures_are = subst (AreDrawn font (nearest rows)) (sym pictures) stands.drawn;
     } in
     record {
-      right = subst (AreRightRecords font (numbered rows)) long stands.right;
+      right = subst (AreValidRecords font (numbered rows)) long stands.right;
       lists =
           subst (λ (n : ℕ). Lists font (records_before (numbered rows) n) script.origin script.width script.height
           script.refresh script.epochs script.pictures) long

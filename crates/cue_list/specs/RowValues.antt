@@ -1,4 +1,4 @@
--- What the cells of right records say.
+-- What the cells of valid records say.
 use Rattle.std.specs.Prelude.{ℕ, ◌==◌, Bool, if◌then◌else◌, codes}
 use Rattle.std.specs.Str.{bytes_eq}
 use Rattle.sub_base.specs.Colour.{shown_of}

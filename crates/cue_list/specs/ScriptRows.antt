@@ -14,8 +14,8 @@ use Rattle.cue_list.specs.Records.{Record, records_of, records_before, record_at
 use Rattle.cue_list.specs.RowFaults.{fault_of}
 use Rattle.sub_base.specs.declared.pace.TheConstants.{SECOND}
 
--- the first n records are right, each judged by those before it
-pub record AreRightRecords (font : FontValue) (all : List Record) (n : ℕ) : Type 0 where
+-- the first n records are valid, each judged by those before it
+pub record AreValidRecords (font : FontValue) (all : List Record) (n : ℕ) : Type 0 where
   pub there : n ≤ length all
   pub right : (k : ℕ) → k < n → fault_of font (records_before all k) (record_at all k) ≡ None
 
@@ -37,10 +37,10 @@ pub record Lists (font : FontValue) (rows : List Record) (origin width height re
   pub epochs_are : epochs ≡ with_last (looking_back font rows).ended (looking_back font rows).epoch
   pub pictures_are : AreDrawn font rows pictures
 
--- the bytes are a script: all its records are right, and they list these values
+-- the bytes are a script: all its records are valid, and they list these values
 pub record IsScript (bytes : List ℕ) (font : FontValue) (origin width height refresh : ℕ) (epochs : List Epoch)
     (pictures : List Picture) : Type 0 where
-  pub right : AreRightRecords font (records_of bytes) (length (records_of bytes))
+  pub right : AreValidRecords font (records_of bytes) (length (records_of bytes))
   pub lists : Lists font (records_before (records_of bytes) (length (records_of bytes))) origin width height refresh
       epochs pictures
 
@@ -54,11 +54,11 @@ pub record HasValues (origin width height refresh : ℕ) (epochs : List Epoch) (
   pub epochs_are : script.epochs ≡ epochs
   pub pictures_are : script.pictures ≡ pictures
 
--- a record, counted from 1, is the first that is wrong, and for what: or all are right, but none starts an epoch
+-- a record, counted from 1, is the first that is faulty, and for what: or all are valid, but none starts an epoch
 pub record IsRefusedRecord (bytes : List ℕ) (font : FontValue) (row : ℕ) (kind : ScriptKind) : Type 0 where
   pub before : ℕ
   pub number : row ≡ before + 1
-  pub right : AreRightRecords font (records_of bytes) before
+  pub right : AreValidRecords font (records_of bytes) before
   pub wrong : ((before < length (records_of bytes))
       × (fault_of font (records_before (records_of bytes) before) (record_at (records_of bytes) before) ≡ Some kind))
       ⊎ ((before ≡ length (records_of bytes))

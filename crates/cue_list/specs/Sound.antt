@@ -64,7 +64,7 @@ pub record IsCue (origin start : ℕ) (regions : List Region) (pictures : List P
   pub found : find (λ region. region.id == cue.region) regions ≡ Some region
   pub fits : FitsRegion region cue.x cue.y (picture_at_place pictures cue.picture)
 
--- an epoch's regions, colours and cues are right
+-- an epoch's regions, colours and cues are valid
 pub record IsEpoch (origin width height : ℕ) (pictures : List Picture) (epoch : Epoch) : Type 0 where
   pub starts : IsTick origin epoch.start
   pub regions : AreRegions width height epoch.regions
@@ -88,7 +88,7 @@ pub record Follows (earlier later : Epoch) : Type 0 where
   pub colours : All (λ row. row.tick < later.start) earlier.colours
   pub cues : All (λ cue. cue.end ≤ later.start) earlier.cues
 
--- a script's display, refresh, epochs and pictures are right, and within the limits
+-- a script's display, refresh, epochs and pictures are valid, and within the limits
 pub record IsSoundScript (origin width height refresh : ℕ) (epochs : List Epoch)
     (pictures : List Picture) : Type 0 where
   pub early : origin ≤ LATEST_ORIGIN

@@ -11,7 +11,7 @@ use Rattle.cue_list.specs.Past.{ScriptPast, looking_back}
 use Rattle.cue_list.specs.Records.{Record, record_of, records_from, records_before}
 use Rattle.cue_list.specs.RowFaults.{fault_of}
 use Rattle.cue_list.specs.Rows.{Row}
-use Rattle.cue_list.specs.ScriptRows.{AreDrawn, AreRightRecords, Lists}
+use Rattle.cue_list.specs.ScriptRows.{AreDrawn, AreValidRecords, Lists}
 
 -- ---- rows as records
 
@@ -27,9 +27,9 @@ nearest rows = reverse (numbered rows)
 abbrev pub next_fault : FontValue → List Row → Row → Option ScriptKind
 next_fault font rows cells = fault_of font (nearest rows) (record_of (length rows + 1) cells)
 
--- a script is that of these records: all of them are right, and they list its values
+-- a script is that of these records: all of them are valid, and they list its values
 pub record IsScriptOf (font : FontValue) (records : List Record) (script : Script) : Type 0 where
-  pub right : AreRightRecords font records (length records)
+  pub right : AreValidRecords font records (length records)
   pub lists : Lists font (records_before records (length records)) script.origin script.width script.height
       script.refresh script.epochs script.pictures
 
@@ -45,9 +45,9 @@ pub record Kept : Type 0 where
   pub past : ScriptPast
   pub pictures : List Picture
 
--- the reader took these rows: each is right by those before it, and what it keeps is what they say
+-- the reader took these rows: each is valid by those before it, and what it keeps is what they say
 pub record StandsFor (font : FontValue) (rows : List Row) (kept : Kept) : Type 0 where
-  pub right : AreRightRecords font (numbered rows) (length rows)
+  pub right : AreValidRecords font (numbered rows) (length rows)
   pub found : kept.past ≡ looking_back font (nearest rows)
   pub drawn : AreDrawn font (nearest rows) kept.pictures
 
@@ -75,7 +75,7 @@ pub record CanGoBack (font : FontValue) (rows : List Row) (now : Kept) (mark : M
   pub marked : mark.past ≡ without_heads kept.past
   pub front : take mark.count now.pictures ≡ kept.pictures
 
--- the row was taken behind the others: it is right, the reader took it too, and can go back to where it stood without
+-- the row was taken behind the others: it is valid, the reader took it too, and can go back to where it stood without
 pub record TakesRow (font : FontValue) (rows : List Row) (cells : Row) (now : Kept) (mark : Mark) : Type 0 where
   pub right : next_fault font rows cells ≡ None
   pub stands : StandsFor font (rows ++ cells ∷ []) now

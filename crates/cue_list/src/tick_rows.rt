@@ -51,7 +51,7 @@ impl ScriptReader {
         Ok(tick)
     }
 
-    /// The first tick that a right record has a part in: its own, and for a region the start of its
+    /// The first tick that a valid record has a part in: its own, and for a region the start of its
     /// epoch. Heads and pictures have none.
     pub fn first_tick(&self, row: &ByteRecord) -> Option<u64>
         ensures { (font : FontValue) (number : ℕ)

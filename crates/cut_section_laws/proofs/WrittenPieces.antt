@@ -12,7 +12,7 @@ use Rattle.cut_section_laws.proofs.LaidPackets.{every_laying}
 
 -- ---- a packet
 
--- a packet that can be taken has a right adaptation field
+-- a packet that can be taken has a valid adaptation field
 no_faults : (unsynced scrambled reserved bad : Bool)
     → cond unsynced (Some faults.NoSync)
     (cond scrambled (Some faults.Scrambled)
@@ -24,9 +24,9 @@ no_faults false false true bad none = absurd cc
 no_faults false false false true none = absurd cc
 no_faults false false false false none = refl
 
-right_field : (pid : ℕ) (packet : List ℕ) → packet_fault pid packet ≡ None → pid_of packet ≡ pid
+valid_field : (pid : ℕ) (packet : List ℕ) → packet_fault pid packet ≡ None → pid_of packet ≡ pid
     → has_error_flag packet ≡ false → has_bad_field packet ≡ false
-right_field pid packet none own unmarked =
+valid_field pid packet none own unmarked =
     by (nat_eq (pid_of packet) pid) (has_error_flag packet) (has_bad_field packet) (eq-eqb _ _ own) unmarked
     (no_faults _ _ _ _ none)
   where
@@ -47,7 +47,7 @@ written : (pid : ℕ) (start : Bool) (counter : ℕ) (piece : List ℕ) → pid 
 written pid start counter piece small below fits =
     let packet = written_packet pid start counter piece in
     let says = written_says pid start counter piece small below fits.0 fits.1 in
-    let field = right_field pid packet says.taken says.carries.same_pid says.carries.sound in
+    let field = valid_field pid packet says.taken says.carries.same_pid says.carries.sound in
     let own : nat_eq (pid_of packet) pid ≡ true = eq-eqb (pid_of packet) pid says.carries.same_pid in
     record {
       carries = record {

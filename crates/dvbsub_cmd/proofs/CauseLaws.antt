@@ -14,7 +14,7 @@ use Rattle.dvbsub_cmd.specs.ExpectOutcome.{IsExpectCause, IsExpectable}
 use Rattle.dvbsub_cmd.specs.GenOutcome.{IsGenCause}
 use Rattle.list_text.specs.Listing.{lists}
 use Rattle.dvbsub_cmd.specs.Outcome.{HasCause, IsCausedBy, TellsStatus}
-use Rattle.script_input.specs.ReadScript.{HasRightScript}
+use Rattle.script_input.specs.ReadScript.{HasValidScript}
 use Rattle.dvbsub_cmd.specs.InputStatus.{IsInputCause}
 use Rattle.sub_base.specs.Endpoints.{Supplied, Received}
 use Rattle.sub_base.specs.Seen.{Seen}
@@ -31,7 +31,7 @@ IsWhole answer = ((cut : ℕ) × (answer ≡ status.Done cut)) ⊎ (answer ≡ s
 
 -- inputs that nothing stops give no cause but want of memory
 calm_input : (has_font : Bool) (a b c d : Supplied) (P : Script → Type 0) (run : Status)
-    → IsInputCause has_font a b c d run → HasRightScript has_font a b c d P → IsWhole run
+    → IsInputCause has_font a b c d run → HasValidScript has_font a b c d P → IsWhole run
 calm_input has_font a b c d P (status.Done cut) cause calm = absurd cause
 calm_input has_font a b c d P status.Usage cause calm = absurd cause
 calm_input has_font a b c d P (status.FontRefused fault) cause calm = absurd (calm.font_right fault cause.0 cause.1)

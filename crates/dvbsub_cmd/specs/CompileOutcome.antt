@@ -2,7 +2,7 @@
 use Rattle.std.specs.Prelude.{◌≡◌, ℕ, Bool, List}
 use Rattle.std.specs.Io.KnownBytes.{Appends}
 use Rattle.cue_list.specs.declared.script.Script.{Script}
-use Rattle.script_input.specs.ReadScript.{ReadsScript, HasRightScript}
+use Rattle.script_input.specs.ReadScript.{ReadsScript, HasValidScript}
 use Rattle.script_stream.specs.Refused.{IsPlanRefused, IsSchedulable, IsScheduleRefused}
 use Rattle.script_stream.specs.ShownRightly.{IsShownRightly}
 use Rattle.shown_stream.specs.Compiled.{IsCompiledTo, compiling_for}
@@ -69,7 +69,7 @@ IsCompileCause profile pid page has_font before now (status.InputTooLong which) 
     IsInputCause has_font before.first now.first before.second now.second (status.InputTooLong which)
     × WroteNothing before.out now.out
 
--- nothing stops the command: its inputs are right, and neither plan nor schedule refuses the script
+-- nothing stops the command: its inputs are valid, and neither plan nor schedule refuses the script
 abbrev pub IsCompilable : ProfileName → Bool → Seen → Seen → Type 0
 IsCompilable profile has_font before now =
-    HasRightScript has_font before.first now.first before.second now.second (IsSchedulable profile)
+    HasValidScript has_font before.first now.first before.second now.second (IsSchedulable profile)

@@ -12,22 +12,22 @@ use Rattle.dvbsub_words.specs.declared.command.Command.TheVariants as command
 use Rattle.dvbsub_cmd.specs.declared.status.Status.{Status}
 use Rattle.dvbsub_cmd.specs.declared.status.Status.TheVariants as status
 
--- the words are a command, and what it reads is whole, within its limits and right; `gen` reads nothing
-abbrev pub IsRightInput : Option Command → Seen → Seen → Type 0
-IsRightInput None before now = ⊥
-IsRightInput (Some (command.Compile profile pid page has_font)) before now = IsCompilable profile has_font before now
-IsRightInput (Some (command.List pid)) before now = IsReadableStream pid before.first now.first
-IsRightInput (Some (command.Dump profile pid page bands)) before now = IsReadableStream pid before.first now.first
-IsRightInput (Some (command.Check profile origin pid page)) before now = IsReadableStream pid before.first now.first
-IsRightInput (Some (command.Expect has_font)) before now = IsExpectable has_font before now
-IsRightInput (Some (command.Gen number profile)) before now = Unit {0}
+-- the words are a command, and what it reads is whole, within its limits and valid; `gen` reads nothing
+abbrev pub IsValidInput : Option Command → Seen → Seen → Type 0
+IsValidInput None before now = ⊥
+IsValidInput (Some (command.Compile profile pid page has_font)) before now = IsCompilable profile has_font before now
+IsValidInput (Some (command.List pid)) before now = IsReadableStream pid before.first now.first
+IsValidInput (Some (command.Dump profile pid page bands)) before now = IsReadableStream pid before.first now.first
+IsValidInput (Some (command.Check profile origin pid page)) before now = IsReadableStream pid before.first now.first
+IsValidInput (Some (command.Expect has_font)) before now = IsExpectable has_font before now
+IsValidInput (Some (command.Gen number profile)) before now = Unit {0}
 
--- no count of faults rose, and what the command reads is right
+-- no count of faults rose, and what the command reads is valid
 pub record IsUntroubled (command : Option Command) (before now : Seen)
     (notes_before notes_now : Received) : Type 0 where
   pub written : HasRisen before.out.faults now.out.faults → ⊥
   pub told : HasRisen notes_before.faults notes_now.faults → ⊥
-  pub right : IsRightInput command before now
+  pub right : IsValidInput command before now
 
 -- where nothing gives a cause of refusal, the command is done whole, or memory is wanting
 abbrev pub IsComplete : List (List ℕ) → Seen → Seen → Received → Received → Status → Type 0

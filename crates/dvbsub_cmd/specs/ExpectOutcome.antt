@@ -8,7 +8,7 @@ use Rattle.sub_base.specs.Counts.{HasRisen}
 use Rattle.sub_base.specs.Endpoints.{AppendsPrefix}
 use Rattle.command_text.specs.PictureText.{picture_text}
 use Rattle.dvbsub_cmd.specs.InputStatus.{IsInputCause}
-use Rattle.script_input.specs.ReadScript.{ReadsScript, HasRightScript}
+use Rattle.script_input.specs.ReadScript.{ReadsScript, HasValidScript}
 use Rattle.sub_base.specs.Endpoints.{WroteNothing}
 use Rattle.sub_base.specs.Seen.{Seen}
 use Rattle.dvbsub_cmd.specs.declared.status.Status.{Status}
@@ -65,7 +65,7 @@ IsExpectCause has_font ticks before now (status.InputTooLong which) =
     IsInputCause has_font before.first now.first before.second now.second (status.InputTooLong which)
     × WroteNothing before.out now.out
 
--- nothing stops the command: its inputs are right
+-- nothing stops the command: its inputs are valid
 abbrev pub IsExpectable : Bool → Seen → Seen → Type 0
 IsExpectable has_font before now =
-    HasRightScript has_font before.first now.first before.second now.second (λ script. Unit {0})
+    HasValidScript has_font before.first now.first before.second now.second (λ script. Unit {0})

@@ -18,7 +18,7 @@ use Rattle.stream_syntax.specs.declared.transport.PacketFault.{PacketFault}
 use Rattle.sub_base.specs.Endpoints.{Received}
 use Rattle.level_text.specs.Anchoring.{Anchoring, HasBegun, HasTimed, IsAskedFor, IsMeterFor, IsBegunIn, IsTimed, IsTimedIn, TakesTimed}
 use Rattle.level_text.specs.ClockText.{from_first}
-use Rattle.level_text.specs.Held.{AreRightPackets, IsRun, TakesHeld, held_of, tick_in}
+use Rattle.level_text.specs.Held.{AreValidPackets, IsRun, TakesHeld, held_of, tick_in}
 use Rattle.level_text.specs.declared.anchored_meter.TheConstants.{LATEST_ANCHOR}
 use Rattle.level_text.specs.declared.held.HeldPacket.{HeldPacket}
 use Rattle.level_text.specs.declared.held.Run.{Run}
@@ -398,7 +398,7 @@ run_timed before now old begun new sets next was is run held begins there found 
           let told =
           takes.goes (tick_at (known ++ ticks_in run)) taken packets text
           (of_run.own ∙ ap (λ (pid : ℕ). held_of pid run.since packets) own_pid)
-          (subst (λ (pid : ℕ). AreRightPackets pid packets) own_pid of_run.sound)
+          (subst (λ (pid : ℕ). AreValidPackets pid packets) own_pid of_run.sound)
           (ticks_behind_known run known taken packets has.counted of_run.counted) timed.metered in (
             told.0,
             record {

@@ -16,7 +16,7 @@ use Rattle.sub_base.specs.Endpoints.{Received}
 use Rattle.level_text.specs.Anchoring.{Anchoring, FinishesTimed, HasTimed, IsTimedIn, TakesTimed}
 use Rattle.level_text.specs.ClockText.{IsClockText, at_ticks, from_first}
 use Rattle.level_text.specs.Clocking.{Clocking, FinishesClocked, HasClocked, Holds, IsClocking, TakesSampled}
-use Rattle.level_text.specs.Held.{AreHeld, AreRightPackets, IsRun, IsRightPacket, held_of, held_with}
+use Rattle.level_text.specs.Held.{AreHeld, AreValidPackets, IsRun, IsValidPacket, held_of, held_with}
 use Rattle.level_text.specs.declared.held.HeldPacket.{HeldPacket}
 use Rattle.level_text.proofs.AnchorEndLaws.{told_so_far}
 use Rattle.level_text.proofs.AnchorLaws.{timed_both}
@@ -79,14 +79,14 @@ held_both pid since (packet ∷ packets) more =
     by true rest = ap (λ (held : List HeldPacket). record { behind = since; packet = packet } ∷ held) rest
     by false rest = rest
 
-sound_both : (pid : ℕ) (packets : List (List ℕ)) (packet : List ℕ) → AreRightPackets pid packets
-    → IsRightPacket pid packet → AreRightPackets pid (packets ++ packet ∷ [])
+sound_both : (pid : ℕ) (packets : List (List ℕ)) (packet : List ℕ) → AreValidPackets pid packets
+    → IsValidPacket pid packet → AreValidPackets pid (packets ++ packet ∷ [])
 sound_both pid [] packet are is = (is, tt)
 sound_both pid (first ∷ packets) packet are is = (are.0, sound_both pid packets packet are.1 is)
 
 -- one packet more waits
 run_with : (pid since count : ℕ) (held : List HeldPacket) (packets : List (List ℕ)) (packet : List ℕ)
-    → IsRun pid since count held packets → IsRightPacket pid packet
+    → IsRun pid since count held packets → IsValidPacket pid packet
     → IsRun pid since (count + 1) (held_with (pid_of packet == pid) held (since + count) packet)
     (packets ++ packet ∷ [])
 run_with pid since count held packets packet is sound = record {
@@ -104,7 +104,7 @@ run_with pid since count held packets packet is sound = record {
     by true = λ i. is.own i ++ record { behind = at i; packet = packet } ∷ []
     by false = is.own ∙ sym (append-nil (held_of pid since packets))
 
-pub one_waits : (old : Clocking) (held : List HeldPacket) (packet : List ℕ) → IsRightPacket old.meter.asked.pid packet
+pub one_waits : (old : Clocking) (held : List HeldPacket) (packet : List ℕ) → IsValidPacket old.meter.asked.pid packet
     → held ≡ held_with (pid_of packet == old.meter.asked.pid) old.held (old.since + old.waiting) packet
     → Holds old (record {
       meter = old.meter;

@@ -14,7 +14,7 @@ use Rattle.pcr_clock.proofs.RunLaws.{between_first, between_last, between_rises}
 use Rattle.set_receiver.specs.Receiving.{reception}
 use Rattle.stream_syntax.specs.TransportPackets.{packet_fault, pid_of}
 use Rattle.sub_base.specs.Endpoints.{Received}
-use Rattle.level_text.specs.Held.{AreHeld, AreRightPackets, TakesHeld, end_tick, held_of, tick_in}
+use Rattle.level_text.specs.Held.{AreHeld, AreValidPackets, TakesHeld, end_tick, held_of, tick_in}
 use Rattle.level_text.specs.declared.held.HeldPacket.{HeldPacket}
 use Rattle.level_text.specs.declared.held.Run.{Run}
 
@@ -62,7 +62,7 @@ abbrev AreOthers : ℕ → List (List ℕ) → Type 0
 AreOthers pid packets = AllByRecursion (IsOther pid) packets
 
 -- where none is held, all are of other PIDs
-none_own : (pid since : ℕ) (packets : List (List ℕ)) → [] ≡ held_of pid since packets → AreRightPackets pid packets
+none_own : (pid since : ℕ) (packets : List (List ℕ)) → [] ≡ held_of pid since packets → AreValidPackets pid packets
     → AreOthers pid packets
 none_own pid since [] none sound = tt
 none_own pid since (packet ∷ packets) none sound =
@@ -98,11 +98,11 @@ record LastOwn (pid since : ℕ) (front_held : List HeldPacket) (one : HeldPacke
   pub all : packets ≡ front ++ one.packet ∷ others
   pub own : front_held ≡ held_of pid since front
   pub place : since + length front ≡ one.behind
-  pub sound : AreRightPackets pid front
+  pub sound : AreValidPackets pid front
   pub are_others : AreOthers pid others
 
 last_own : (pid since : ℕ) (held : List HeldPacket) (one : HeldPacket) (packets : List (List ℕ))
-    → held ++ one ∷ [] ≡ held_of pid since packets → AreRightPackets pid packets → LastOwn pid since held one packets
+    → held ++ one ∷ [] ≡ held_of pid since packets → AreValidPackets pid packets → LastOwn pid since held one packets
 last_own pid since [] one [] is sound = absurd (cc)
 last_own pid since (first ∷ held) one [] is sound = absurd (cc)
 last_own pid since held one (packet ∷ packets) is sound =

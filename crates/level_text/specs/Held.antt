@@ -38,18 +38,18 @@ AreHeld pid from end (one ∷ held) =
 -- ---- packets without a sample
 
 -- a packet of bytes that can be taken
-pub record IsRightPacket (pid : ℕ) (packet : List ℕ) : Type 0 where
+pub record IsValidPacket (pid : ℕ) (packet : List ℕ) : Type 0 where
   pub bytes : AreAllBytes packet
   pub right : packet_fault pid packet ≡ None
 
-abbrev pub AreRightPackets : ℕ → List (List ℕ) → Type 0
-AreRightPackets pid packets = AllByRecursion (IsRightPacket pid) packets
+abbrev pub AreValidPackets : ℕ → List (List ℕ) → Type 0
+AreValidPackets pid packets = AllByRecursion (IsValidPacket pid) packets
 
 -- so many packets, of which the first stands so many behind the last sample; and those of the PID among them
 pub record IsRun (pid since count : ℕ) (held : List HeldPacket) (packets : List (List ℕ)) : Type 0 where
   pub counted : length packets ≡ count
   pub own : held ≡ held_of pid since packets
-  pub sound : AreRightPackets pid packets
+  pub sound : AreValidPackets pid packets
 
 -- the tick up to which packets are held: that of the next sample, and of the last one where none is known
 abbrev pub end_tick : Option ℕ → Option NextSample → ℕ
@@ -66,7 +66,7 @@ pub record TakesHeld (before now : Received) (old new : Checking) (was is : Buff
     (held : List HeldPacket) : Type 0 where
   pub goes : (slot_of : ℕ → ℕ) (taken packets : List (List ℕ)) (text : List ℕ)
       → held ≡ held_of (reception old.receiving).pid run.since packets
-      → AreRightPackets (reception old.receiving).pid packets
+      → AreValidPackets (reception old.receiving).pid packets
       → ((k : ℕ) → k < length packets → slot_of (length taken + k) ≡ tick_in run (run.since + k))
       → HasMetered slot_of old taken text
       → (more : List ℕ) × HasMetered slot_of new (taken ++ packets) (text ++ more) × PutsOut before now was is more

@@ -17,10 +17,10 @@ use Rattle.sub_base.specs.Endpoints.{Received}
 use Rattle.command_text.proofs.PutLaws.{PutsOut-nothing, PutsOut-both}
 
 -- a segment that was read has the line of its head
-pub right_line : (place : ℕ) (frame : FrameOfBytes) (bytes line : List ℕ) (value : SegmentValue)
+pub valid_line : (place : ℕ) (frame : FrameOfBytes) (bytes line : List ℕ) (value : SegmentValue)
     → IsFrameOf bytes frame → frame.whole ≡ length bytes → IsSegment (take frame.whole bytes) value
     → line ≡ segment_line place frame.kind frame.page (length frame.body.now) → IsSegmentLine place bytes line
-right_line place frame bytes line value framed exact is line_is =
+valid_line place frame bytes line value framed exact is line_is =
     right value
     (subst (λ (front : List ℕ). IsSegment front value) (ap (λ n. take n bytes) exact ∙ take-length bytes) is)
     (line_is ∙

@@ -152,7 +152,7 @@ accepted_back old left taken reader past cells mark are takes same seen keeps ba
       };
     }
 
--- the first tick of a right row, as a reader has it
+-- the first tick of a valid row, as a reader has it
 pub first_is_early : (font : FontValue) (past : List RowOrTick) (cells : Row) (kept : Kept) (first : Option ℕ)
     → StandsFor font (rows_in past) kept → next_fault font (rows_in past) cells ≡ None
     → ((any : FontValue) (number : ℕ) → fault_with any kept.past (record_of number cells) ≡ None
@@ -211,7 +211,7 @@ pub early_unsent : (inserter : Inserter) (past : List RowOrTick) (first last : O
     → horizon_over first last ≡ Some horizon → IsUnsentOrEarly inserter past first last (refused.Early horizon)
 early_unsent inserter past first last horizon early = (refl, early)
 
--- the record is right, and refused behind its tests
+-- the record is valid, and refused behind its tests
 pub next_refused : (inserter : Inserter) (past : List RowOrTick) (cells : Row) (first last : Option ℕ)
     (fault : RowFault)
     → next_fault inserter.font (rows_in past) cells ≡ None → first ≡ early_tick inserter.font past cells

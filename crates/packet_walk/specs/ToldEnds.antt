@@ -88,7 +88,7 @@ IsToldEnd Told pid before now out_before out_now told_end.Unwritten =
 IsToldEnd Told pid before now out_before out_now told_end.Memory = (now ≡ before) × WroteNothing out_before out_now
 
 -- the stream is within its limit, and no packet of it is refused
-pub record IsRightStream (pid : ℕ) (before now : Supplied) : Type 0 where
+pub record IsValidStream (pid : ℕ) (before now : Supplied) : Type 0 where
   pub within : HasRisenPast STREAM_LIMIT before.given now.given → ⊥
   pub right : (packets : List (List ℕ)) (packet rest : List ℕ) (fault : PacketFault)
       → AreTaken pid before now packets (packet ++ rest) → length packet ≡ PACKET_LENGTH
@@ -97,4 +97,4 @@ pub record IsRightStream (pid : ℕ) (before now : Supplied) : Type 0 where
 -- a stream that was read whole, within its limit, and of which no packet is refused
 pub record IsReadableStream (pid : ℕ) (before now : Supplied) : Type 0 where
   pub read : HasRisen before.faults now.faults → ⊥
-  pub right : IsRightStream pid before now
+  pub right : IsValidStream pid before now

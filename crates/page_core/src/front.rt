@@ -6,7 +6,7 @@ ghost use Rattle.decoder_model.specs.Received.{BeginsWith};
 ghost use Rattle.segments.specs.Contents.{contents};
 ghost use Rattle.segments.specs.Framing.{IsFrame, IsFrameOf};
 ghost use Rattle.page_core.specs.Handed.{IsFrameCutOff, Matches};
-ghost use Rattle.page_core.specs.Private.RegionSteps.{IsRightValue};
+ghost use Rattle.page_core.specs.Private.RegionSteps.{IsValidValue};
 
 use segments::{Frame, Segment, SegmentFault, read_frame};
 
@@ -37,7 +37,7 @@ pub(crate) fn read_one<'a>(frame: &Frame<'a>) -> Result<Segment<'a>, SegmentFaul
     requires { IsFrame frame.now }
     ensures matches { (segment : List ℕ) (reading : Reading) → IsFrameOf segment frame.now
         → IsReading segment reading → Matches result reading }
-    ensures right { IfOk result (λ segment. IsRightValue (contents segment)) }
+    ensures right { IfOk result (λ segment. IsValidValue (contents segment)) }
 {
     frame.segment()
 }

@@ -156,7 +156,7 @@ IsRefusedBehind profile pages before now fault =
     (first : Script) × (second : Script) × AreScriptsRead before now first second
     × IsUnsendable profile pages first second fault
 
--- why the scripts are refused: the first is none, or the second is none and the first is right, or they are not sent
+-- why the scripts are refused: the first is none, or the second is none and the first is valid, or they are not sent
 abbrev pub IsPairRefused : ProfileName → TwoPages → Seen → Seen → PairFault → Type 0
 IsPairRefused profile pages before now (pair.FirstScript fault) =
     IsScriptRefused false before.first now.first before.first now.first fault

@@ -14,7 +14,7 @@ use Rattle.psi_tables.specs.Services.{named_by, pid_in, pid_named, subtitle_pid}
 use Rattle.psi_tables.specs.Writing.{before_crc, pat_entry, pmt_body, written_pat, written_pmt, written_section}
 use Rattle.psi_tables.specs.declared.service.Service.{Service}
 use Rattle.psi_tables.proofs.OwnCrc.{written_crc}
-use Rattle.psi_tables.proofs.SectionLaws.{PassesHead, right_value}
+use Rattle.psi_tables.proofs.SectionLaws.{PassesHead, valid_value}
 use Rattle.psi_tables.proofs.WritingLaws.{pat_size}
 
 -- a section that can be written: a PAT or a PMT, with a body of its kind
@@ -77,7 +77,7 @@ read_written table id body more is =
     ap (take (3 + (9 + length body) - 4 - 8)) (append_assoc body crc more)
     ∙ take_at body (crc ++ more) _ (sym size) in
     let id_is : id / 256 % 256 * 256 + id % 256 ≡ id = omega (arith, is.id_fits) in
-    right_value (written_section table id body ++ more) (9 + length body)
+    valid_value (written_section table id body ++ more) (9 + length body)
     (if table == 0 then Pat id body else Pmt id (streams_in body)) passes
     (ap (is_body table) same ∙ is.body_is)
     (rw (same, id_is) refl)

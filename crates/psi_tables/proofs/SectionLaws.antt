@@ -46,12 +46,12 @@ pub right_by : (bytes : List ℕ) → section_fault bytes ≡ None
     → valid_section bytes ≡ Some (section_value bytes)
 right_by bytes none = ap (value_by bytes) none
 
-pub right_value : (bytes : List ℕ) (size : ℕ) (value : SectionValue) → PassesHead bytes size
+pub valid_value : (bytes : List ℕ) (size : ℕ) (value : SectionValue) → PassesHead bytes size
     → is_body (byte_at 0 bytes) (take (3 + size - 4 - 8) (drop 8 bytes)) ≡ true
     → value ≡ (if byte_at 0 bytes == 0 then Pat (word_at 3 bytes) (take (3 + size - 4 - 8) (drop 8 bytes))
     else Pmt (word_at 3 bytes) (streams_in (take (3 + size - 4 - 8) (drop 8 bytes))))
     → valid_section bytes ≡ Some value
-right_value bytes size value passes whole is =
+valid_value bytes size value passes whole is =
     let same = body_at bytes size passes.size_is in
     let body : is_body (byte_at 0 bytes) (body_of bytes) ≡ true =
     ap (is_body (byte_at 0 bytes)) (sym same) ∙ whole in

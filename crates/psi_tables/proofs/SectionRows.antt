@@ -22,7 +22,7 @@ use Rattle.psi_tables.specs.Loops.{are_descriptors, are_entries, are_streams, en
 use Rattle.psi_tables.specs.Sections.{Pat, Pmt, SectionValue, body_of, head_descriptors, is_body, is_pmt_body, valid_section, section_fault, section_size, section_value, streams_in}
 use Rattle.psi_tables.proofs.RowsAgain.{AreBytes_behind, StreamsAgain, behind_is, descriptors_again, entries_again, streams_again, take_2_5_1, take_r3_13}
 use Rattle.psi_tables.proofs.RowsLaid.{Laid, both, byte_laid, descriptors_are, entries_laid, pid_laid, size_laid, streams_laid, version_laid, word_laid}
-use Rattle.psi_tables.proofs.SectionLaws.{PassesHead, by_value, right_value}
+use Rattle.psi_tables.proofs.SectionLaws.{PassesHead, by_value, valid_value}
 
 pub all_bytes : (bytes : List ℕ) → All (λ byte. byte < 256) bytes → AreBytes bytes
 all_bytes bytes small i =
@@ -408,7 +408,7 @@ cells_right table cells more short check =
     let same : take (3 + size - 4 - 8) ((body ++ cells.crc) ++ more) ≡ body =
     ap (take (3 + size - 4 - 8)) (append_assoc body cells.crc more)
     ∙ take_at body (cells.crc ++ more) (3 + size - 4 - 8) (sym count) in
-    right_value (bytes ++ more) size
+    valid_value (bytes ++ more) size
     (if table_id table == 0 then Pat (table_number table) body else Pmt (table_number table) (streams_in body))
     passes
     (ap (is_body (table_id table)) same ∙ cells.whole) (rw (same, cells.id) refl)

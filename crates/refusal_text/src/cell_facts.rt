@@ -53,7 +53,7 @@ fn put_range(told: &mut Text, case: &Case<'_>, rule: CellRule, place: u64) -> Re
     ])
 }
 
-/// Puts what lies outside its range where each number is right: the name of a picture, or a text.
+/// Puts what lies outside its range where each number is valid: the name of a picture, or a text.
 pub(crate) fn put_free_cell(told: &mut Text, case: &Case<'_>) -> Result<(), NoMemory> {
     match case.word {
         RecordWord::Picture => told.say(&[

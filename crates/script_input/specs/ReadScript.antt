@@ -28,7 +28,7 @@ abbrev pub HasFont : Bool → Supplied → Supplied → FontValue → Type 0
 HasFont false before now value = value ≡ no_font
 HasFont true before now value = (text : List ℕ) × WasRead text_limit before now text × IsFont text value
 
--- no font is named, or it was read and is right
+-- no font is named, or it was read and is valid
 abbrev pub HasSomeFont : Bool → Supplied → Supplied → Type 0
 HasSomeFont has_font before now = (font : FontValue) × HasFont has_font before now font
 
@@ -66,7 +66,7 @@ abbrev pub IsTextWithin : Supplied → Supplied → Type 0
 IsTextWithin before now = now.given ≤ before.given + text_limit
 
 -- why no script was read. The font is read first: a fault of the second source comes before the first one is
--- called, and a fault of the first source with a font that is right
+-- called, and a fault of the first source with a font that is valid
 abbrev pub IsInputEnd : Bool → Supplied → Supplied → Supplied → Supplied → InputEnd → Type 0
 IsInputEnd has_font first_before first_now second_before second_now (end.FontRefused fault) =
     (has_font ≡ true) × IsFontRefused fault second_before second_now × (first_now ≡ first_before)
@@ -84,9 +84,9 @@ IsInputEnd has_font first_before first_now second_before second_now (end.TooLong
     (has_font ≡ true) × HasRisenPast text_limit second_before.given second_now.given × (first_now ≡ first_before)
 IsInputEnd has_font first_before first_now second_before second_now end.Memory = Unit {0}
 
--- nothing stops the reading of the inputs: no count rose, no limit was passed, font and script are right, and P holds
+-- nothing stops the reading of the inputs: no count rose, no limit was passed, font and script are valid, and P holds
 -- of the script
-pub record HasRightScript (has_font : Bool) (first_before first_now second_before second_now : Supplied)
+pub record HasValidScript (has_font : Bool) (first_before first_now second_before second_now : Supplied)
     (P : Script → Type 0) : Type 0 where
   pub first_read : HasRisen first_before.faults first_now.faults → ⊥
   pub second_read : has_font ≡ true → HasRisen second_before.faults second_now.faults → ⊥

@@ -6,7 +6,7 @@ use Rattle.stream_syntax.specs.declared.clut.ClutEntry.{ClutEntry}
 use Rattle.stream_syntax.specs.declared.display.Window.{Window}
 use Rattle.stream_syntax.specs.Fields.{Field, HasFields, FitsFields}
 use Rattle.stream_syntax.specs.PixelCodes.{bits_of}
-use Rattle.stream_syntax.specs.Segments.{Page, Region, Clut, Object, Display, SegmentValue, of_page, of_region, of_clut, of_object, of_display, end_of_set, passed_over, CodedEntry, page_fields, region_fields, clut_fields, object_fields, display_fields, free_bytes, IsPassedOver, IsBody, IsRight, IsWindowOf, entry_of}
+use Rattle.stream_syntax.specs.Segments.{Page, Region, Clut, Object, Display, SegmentValue, of_page, of_region, of_clut, of_object, of_display, end_of_set, passed_over, CodedEntry, page_fields, region_fields, clut_fields, object_fields, display_fields, free_bytes, IsPassedOver, IsBody, IsValid, IsWindowOf, entry_of}
 use Rattle.stream_syntax.specs.SegmentTests.{body_tests, top_in, bottom_in, has_window, is_window, AreBlocks, page_tests, region_tests, clut_tests, object_tests, display_tests}
 use Rattle.stream_syntax.specs.Tests.{first_fault, byte_at, word_at}
 use Rattle.segments.specs.Reading.{window_in, page_in, region_in, clut_in, object_in, display_in, value_in}
@@ -27,7 +27,7 @@ pub record Laid (kind : ℕ) (body : List ℕ) (value : SegmentValue) : Type 0 w
   pub is_body : IsBody value kind fields
   pub has : HasFields fields (bits_of body)
   pub fits : FitsFields fields
-  pub right : IsRight value
+  pub right : IsValid value
 
 differ : false ≡ true → ⊥
 differ e = cc
@@ -272,7 +272,7 @@ display_reads further version width height (Some window) body fits fit has right
     )
 
 pub body_again : (value : SegmentValue) (kind : ℕ) (body : List ℕ) (fields : List Field) → AreBytes body
-    → IsBody value kind fields → FitsFields fields → HasFields fields (bits_of body) → IsRight value
+    → IsBody value kind fields → FitsFields fields → HasFields fields (bits_of body) → IsValid value
     → Reads kind body value
 body_again (of_page value) kind body fields fits (kind-is, is) fit has right =
     at_kind kind 16 body (of_page value) kind-is

@@ -9,7 +9,7 @@ use Rattle.std.proofs.lemmas.List.Elements.{All-get_or, All-from_get_or}
 use Rattle.std.proofs.Math.Seq.{take-add}
 use Rattle.stream_syntax.specs.Fields.{Field, HasFields, no_row, row_first, FitsFields}
 use Rattle.stream_syntax.specs.PixelCodes.{bits, bits_of}
-use Rattle.stream_syntax.specs.Segments.{SegmentValue, head_fields, segment_fields, byte_count, IsBody, IsRight, IsSegment}
+use Rattle.stream_syntax.specs.Segments.{SegmentValue, head_fields, segment_fields, byte_count, IsBody, IsValid, IsSegment}
 use Rattle.stream_syntax.specs.SegmentTests.{frame_tests, body_of}
 use Rattle.stream_syntax.specs.Tests.{first_fault, byte_at, word_at}
 use Rattle.segments.proofs.Bits.{take_byte, take_word}
@@ -98,7 +98,7 @@ Again segment value = (byte_at 0 segment ≡ 15) × (6 ≤ length segment)
 
 cells_again : (segment : List ℕ) (value : SegmentValue) (kind page : ℕ) (body : List Field) → AreBytes segment
     → IsBody value kind body → FitsFields (segment_fields kind page body)
-    → HasFields (segment_fields kind page body) (bits_of segment) → IsRight value → Again segment value
+    → HasFields (segment_fields kind page body) (bits_of segment) → IsValid value → Again segment value
 cells_again (a ∷ b ∷ c ∷ d ∷ e ∷ f ∷ rest) value kind page body bytes is fits has right =
     let first = take_byte 15 a _ _ (omega arith) (bytes 0) has in
     let second = take_byte kind b _ _ fits.1.0 (bytes 1) first.1 in

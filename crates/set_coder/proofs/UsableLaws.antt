@@ -1,4 +1,4 @@
--- The epochs of a script that is right name what is there, and their numbers fit the fields of segments.
+-- The epochs of a script that is valid name what is there, and their numbers fit the fields of segments.
 use Rattle.std.proofs.Common.{◌≡◌, ℕ, ◌≤◌, Bool, true, false, cond, eqb, List, [], ◌∷◌, length, get_or, Option, Some, None, refl, sym, ap, subst, ◌∙◌, arith}
 use Rattle.std.proofs.lemmas.Bool.{eqb-true}
 use Rattle.std.proofs.lemmas.List.Elements.{All-head, All-tail}

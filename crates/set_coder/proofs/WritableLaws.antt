@@ -11,7 +11,7 @@ use Rattle.sub_base.specs.Picture.{Picture}
 use Rattle.sub_base.specs.declared.depth.Depth.{Depth}
 use Rattle.sub_base.specs.declared.depth.Depth.TheVariants.{Two, Four, Eight}
 use Rattle.stream_syntax.specs.Fields.{FitsFields}
-use Rattle.stream_syntax.specs.Segments.{SegmentValue, of_page, of_region, of_clut, of_object, of_display, end_of_set, passed_over, page_entry_fields, listing_fields, coded_entry_fields, in_full, flag, state_number, depth_number, written_body, byte_count, segment_kind, spelled, IsRight, HasShownColours, IsWritable}
+use Rattle.stream_syntax.specs.Segments.{SegmentValue, of_page, of_region, of_clut, of_object, of_display, end_of_set, passed_over, page_entry_fields, listing_fields, coded_entry_fields, in_full, flag, state_number, depth_number, written_body, byte_count, segment_kind, spelled, IsValid, HasShownColours, IsWritable}
 use Rattle.stream_syntax.specs.declared.clut.ClutEntry.{ClutEntry}
 use Rattle.stream_syntax.specs.declared.page.PageEntry.{PageEntry}
 use Rattle.stream_syntax.specs.declared.page.State.{State}
@@ -59,7 +59,7 @@ kind_small value = elim value as (λ v. segment_kind v < 256) [
 
 -- a segment whose numbers fit, and whose body is short enough
 pub writable : (page : ℕ) (value : SegmentValue) → page < 2 ^ 16 → FitsFields (written_body value)
-    → length (body_bytes value) < 65536 → IsRight value → HasShownColours value → IsWritable page value
+    → length (body_bytes value) < 65536 → IsValid value → HasShownColours value → IsWritable page value
 writable page value fits_page body short right shown =
     let size : byte_count (written_body value) < 2 ^ 16 = omega (arith, size_is value body, short) in
     record { fits = (omega arith, (kind_small value, (fits_page, (size, body)))); right = right; shown = shown }
@@ -360,7 +360,7 @@ one_display script page fits_page sound =
     (written_body
     (of_display (record { version = 0; width = script.width; height = script.height; window = None }))) =
     (omega arith, (omega arith, (tt, (omega (arith, n.1), (omega (arith, n.3), tt))))) in
-    let right : IsRight
+    let right : IsValid
     (of_display
     (record { version = 0; width = script.width; height = script.height; window = None })) = (n.0, n.2, tt) in
     All-cons (IsWritable page)

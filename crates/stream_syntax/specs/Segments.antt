@@ -304,15 +304,15 @@ IsWindowOf width height (Some window) =
 
 -- what is asked of a value beyond its table: sides are at least 1, the blocks of an object are in their grammar, and a
 -- window lies inside the display
-abbrev pub IsRight : SegmentValue → Type 0
-IsRight (of_page value) = Unit {0}
-IsRight (of_region value) = (1 ≤ value.head.width) × (1 ≤ value.head.height)
-IsRight (of_clut value) = Unit {0}
-IsRight (of_object value) = AreBlocks value.top value.bottom
-IsRight (of_display value) =
+abbrev pub IsValid : SegmentValue → Type 0
+IsValid (of_page value) = Unit {0}
+IsValid (of_region value) = (1 ≤ value.head.width) × (1 ≤ value.head.height)
+IsValid (of_clut value) = Unit {0}
+IsValid (of_object value) = AreBlocks value.top value.bottom
+IsValid (of_display value) =
     (1 ≤ value.width) × (1 ≤ value.height) × IsWindowOf value.width value.height value.window
-IsRight end_of_set = Unit {0}
-IsRight passed_over = Unit {0}
+IsValid end_of_set = Unit {0}
+IsValid passed_over = Unit {0}
 
 -- the bytes are a whole segment with that value
 pub record IsSegment (bytes : List ℕ) (value : SegmentValue) : Type 0 where
@@ -323,7 +323,7 @@ pub record IsSegment (bytes : List ℕ) (value : SegmentValue) : Type 0 where
   pub is_body : IsBody value kind body
   pub fits : FitsFields (segment_fields kind page body)
   pub laid : HasFields (segment_fields kind page body) (bits_of bytes)
-  pub right : IsRight value
+  pub right : IsValid value
 
 -- ---- what a writer makes of a value
 
@@ -382,9 +382,9 @@ abbrev pub HasShownColours : SegmentValue → Type 0
 HasShownColours (of_clut value) = All (λ entry. shown_of entry.colour ≡ entry.colour) value.entries
 HasShownColours value = Unit {0}
 
--- what can be written: each number fits its row, the length of the body among them, the value is right, and its
+-- what can be written: each number fits its row, the length of the body among them, the value is valid, and its
 -- colours are as they are shown
 pub record IsWritable (page : ℕ) (value : SegmentValue) : Type 0 where
   pub fits : FitsFields (written_fields page value)
-  pub right : IsRight value
+  pub right : IsValid value
   pub shown : HasShownColours value

@@ -1,4 +1,4 @@
--- What each right line adds to what is found by looking back: that it is this is said in `proofs/`.
+-- What each valid line adds to what is found by looking back: that it is this is said in `proofs/`.
 use Rattle.std.specs.Prelude.{◌≡◌, ◌&&◌, ◌||◌, not, if◌then◌else◌, ℕ, ◌+◌, ◌-◌, Bool, true, false, List, [], ◌++◌, Option, Some, None, is_some, option_map}
 use Rattle.std.specs.Option.{option_map_or}
 use Rattle.bitmap_font.specs.declared.keyword.Keyword.{Keyword}
@@ -44,7 +44,7 @@ finished (Some glyph) = glyph_from glyph.encoding glyph.advance glyph.shape glyp
 abbrev pub encoded_with : Option (Option ℕ) → (ℕ → Bool) → ℕ → Bool
 encoded_with encoding is_encoded character = has character (characters_of encoding) || is_encoded character
 
--- a right line where no row is due
+-- a valid line where no row is due
 abbrev pub step_in_place : Past → Keyword → List ℕ → Past
 step_in_place past FontBoundingBox text = record past { bounds = box_of 1 (words text) }
 step_in_place past StartProperties text = record past { properties = true }
@@ -72,13 +72,13 @@ first_past = record {
   is_encoded = λ _. false;
 }
 
--- a right line that is not passed over
+-- a valid line that is not passed over
 abbrev pub step_counted : Past → Line → Past
 step_counted past line =
     if is_row_due past.glyph then record past { glyph = option_map (with_row line.text) past.glyph }
     else step_in_place past line.keyword line.text
 
--- a right line
+-- a valid line
 abbrev pub step : Past → Line → Past
 step past line =
     if past.properties then record past { properties = not (is EndProperties line) } else step_counted past line

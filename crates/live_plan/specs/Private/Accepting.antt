@@ -95,7 +95,7 @@ IsRefusedBy wrong early inserter rows (refused.Plan fault) =
 IsRefusedBy wrong early inserter rows (refused.Schedule fault) =
     (wrong ≡ None) × (early ≡ None) × IsUnscheduled inserter rows fault
 
--- why there are none of rows of right records, the last of which has that first tick
+-- why there are none of rows of valid records, the last of which has that first tick
 abbrev pub IsUnsentOrEarly : Inserter → List RowOrTick → Option ℕ → Option ℕ → RowFault → Type 0
 IsUnsentOrEarly inserter past first last fault = IsRefusedBy None (horizon_over first last) inserter past fault
 

@@ -105,7 +105,7 @@ module _ (old new : PoolOf Node) (id : ℕ) (beside : KeepsBeside (listings_list
           free = is i;
         }
 
-  -- each list has items of its kind, and the tables are right
+  -- each list has items of its kind, and the tables are valid
   pub listings_sorted : (region_nodes clut_nodes : List (Option NodeId))
       → AreKind listing_in (list_of new (listings_list id)) → IsSorted old × IsIndexed old region_nodes clut_nodes
       → IsSorted new × IsIndexed new region_nodes clut_nodes

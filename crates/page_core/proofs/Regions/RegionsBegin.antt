@@ -14,7 +14,7 @@ use Rattle.decoder_model.specs.Taken.{Taken, taken_of, taken_region}
 use Rattle.pixel_store.specs.Regions.{Regions, code_of, region_at}
 use Rattle.page_core.specs.Composition.{AreIdsApart, Composition, KeptRegion, region_in}
 use Rattle.page_core.specs.Memory.{HoldsSegments, IsWholeMemory, Memory, head_of, kept_listing}
-use Rattle.page_core.specs.Private.RegionSteps.{AreBare, AreReady, AreRegionsRight, AreStored, AwaitRegions, KeepsBesideRegions, awaited, bare_by, bare_where, is_renewed, listings_kept}
+use Rattle.page_core.specs.Private.RegionSteps.{AreBare, AreReady, AreRegionsValid, AreStored, AwaitRegions, KeepsBesideRegions, awaited, bare_by, bare_where, is_renewed, listings_kept}
 use Rattle.page_core.specs.Private.RegionTests.{AreApart}
 use Rattle.page_core.specs.Private.Walks.{is_region}
 use Rattle.page_core.proofs.Regions.RegionIds.{found_mapped, has_id, ids_mapped, id_of, listings_at}
@@ -205,7 +205,7 @@ listings_counted taken set composition store await apart =
 
 -- the regions of a set can be taken
 pub ready_begins : (older set : List Content) (memory : Memory) (composition : Composition) → HoldsSegments older memory
-    → IsWholeMemory memory → AreApart [] (filter is_region set) → AreRegionsRight older set memory
+    → IsWholeMemory memory → AreApart [] (filter is_region set) → AreRegionsValid older set memory
     → AreBare (filter is_region set) memory.composition composition
     → KeepsBesideRegions memory.composition composition → AreStored composition memory.store
     → AreReady memory.profile older (filter is_region set) composition memory.store

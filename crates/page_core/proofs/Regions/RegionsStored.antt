@@ -19,7 +19,7 @@ use Rattle.pixel_store.specs.Regions.{StoredRegion}
 use Rattle.page_core.specs.Composition.{Composition, KeptRegion, region_in}
 use Rattle.page_core.specs.Memory.{HasSidesOf}
 use Rattle.page_core.specs.Private.Painted.{HasRegion}
-use Rattle.page_core.specs.Private.RegionSteps.{AreStored, IsRightHead, changed_at, fresh, headed, listing_more, with_head, with_listings, with_region, with_regions}
+use Rattle.page_core.specs.Private.RegionSteps.{AreStored, IsValidHead, changed_at, fresh, headed, listing_more, with_head, with_listings, with_region, with_regions}
 use Rattle.page_core.proofs.Pictures.DrawnEntries.{placed_in_order}
 use Rattle.page_core.proofs.Pictures.Finds.{found_all}
 use Rattle.page_core.proofs.Regions.RegionIds.{all_with, apart_mapped, apart_with, changed_here, fewer, found_changed, found_has, id_of, id_kept, none_has, sum_with}
@@ -274,7 +274,7 @@ pub stored_first : (composition new : Composition) (before between after : Regio
     → PlacesOne head.width head.height head.depth slot before between → KeepsOthers slot between after
     → AreStored composition before → region_in composition head.region ≡ None
     → 1 + length listings ≤ composition.free
-    → IsRightHead head → AreStored new after
+    → IsValidHead head → AreStored new after
 stored_first composition new before between after head slot listings is placed keeps stored none room right =
     let one : KeptRegion = record { head = head; slot = slot; listings = [] } in
     let put =
@@ -289,7 +289,7 @@ pub stored_again : (composition new : Composition) (before after : Regions) (hea
     (listings : List Listing) → new ≡ with_listings head.region listings (with_head head composition)
     → KeepsOthers kept.slot before after → AreStored composition before
     → region_in composition head.region ≡ Some kept → has_same_shape head kept.head ≡ true
-    → length listings ≤ composition.free → IsRightHead head → AreStored new after
+    → length listings ≤ composition.free → IsValidHead head → AreStored new after
 stored_again composition new before after head kept listings is keeps stored found same room right =
     subst (λ (c : Composition). AreStored c after) (sym is)
     (stored_written (with_listings head.region listings (with_head head composition)) kept.slot before after keeps

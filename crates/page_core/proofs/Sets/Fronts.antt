@@ -13,8 +13,8 @@ use Rattle.segments.specs.Contents.{contents}
 use Rattle.segments.specs.declared.reading.Segment.{Segment}
 use Rattle.decoder_model.specs.Received.{IsFramed, BeginsWith}
 use Rattle.page_core.specs.Handed.{Matches}
-use Rattle.page_core.specs.Private.RegionSteps.{IsRightValue}
-use Rattle.page_core.proofs.Regions.RegionHeads.{right_value}
+use Rattle.page_core.specs.Private.RegionSteps.{IsValidValue}
+use Rattle.page_core.proofs.Regions.RegionHeads.{valid_value}
 
 -- framed bytes have a head
 pub framed_length : (bytes : List ℕ) → IsFramed bytes → 6 ≤ length bytes
@@ -78,11 +78,11 @@ matches_result bytes whole (Err found) reading every_segment every_fault is_read
     (λ fault is. let same : ◌≡◌ {A = Result Segment SegmentFault} (Err found) (Err fault) = every_fault fault
     is in cc) is_reading
 
--- and a right value
+-- and a valid value
 pub right_result : (bytes : List ℕ) (whole : ℕ) (result : Result Segment SegmentFault)
     → IfOk result (λ segment. IsSegment (take whole bytes) (contents segment))
-    → IfOk result (λ segment. IsRightValue (contents segment))
-right_result bytes whole (Ok segment) is = right_value (take whole bytes) (contents segment) is
+    → IfOk result (λ segment. IsValidValue (contents segment))
+right_result bytes whole (Ok segment) is = valid_value (take whole bytes) (contents segment) is
 right_result bytes whole (Err fault) is = tt
 
 -- the front of bytes, cut where the size says

@@ -13,7 +13,7 @@ use Rattle.page_core.specs.Composition.{with_entries}
 use Rattle.page_core.specs.Handed.{AreContents}
 use Rattle.page_core.specs.Private.Judging.{fault_before_nodes}
 use Rattle.page_core.specs.Memory.{Memory, IsWholeMemory, HoldsSegments, showing}
-use Rattle.page_core.specs.Private.RegionSteps.{AreRegionsRight, KeepsButRegions}
+use Rattle.page_core.specs.Private.RegionSteps.{AreRegionsValid, KeepsButRegions}
 use Rattle.page_core.specs.Private.RegionTests.{AreApart, before_regions, first_in}
 use Rattle.page_core.specs.Private.SetSteps.{before_cluts, before_objects, with_composition, KeepsButPage}
 use Rattle.page_core.specs.Private.Sound.{IsSound}
@@ -83,7 +83,7 @@ module _ (set : List Content) (before : List (List Content)) (page : Page) (byte
       → nodes_of (taken_of (before_objects (segments_of before) set)) page ≤ first.profile.nodes
       → memory.profile ≡ first.profile → memory.store ≡ first.store → memory.composition.entries ≡ []
       → IsWholeMemory memory → HoldsSegments (before_regions (segments_of before) set) memory
-      → AreRegionsRight (before_regions (segments_of before) set) set memory
+      → AreRegionsValid (before_regions (segments_of before) set) set memory
   regions_right first memory is_before none enough profile store empty whole holds =
       let passed = tests_passed first.profile before set page (sym none) in
       record {
@@ -108,10 +108,10 @@ module _ (set : List Content) (before : List (List Content)) (page : Page) (byte
       → HoldsSegments (before_regions (segments_of before) set) shown → shown ≡ showing shown.display first
       → cleared ≡ with_composition (with_entries [] shown.composition) shown → IsWholeMemory cleared
       → ((older set : List Content) → HoldsSegments older cleared → AreContents set bytes
-      → AreApart [] (filter is_region set) → AreRegionsRight older set cleared
+      → AreApart [] (filter is_region set) → AreRegionsValid older set cleared
       → HoldsSegments (reverse (filter is_region set) ++ older) memory)
       → ((older set : List Content) → HoldsSegments older cleared → AreContents set bytes
-      → AreApart [] (filter is_region set) → AreRegionsRight older set cleared
+      → AreApart [] (filter is_region set) → AreRegionsValid older set cleared
       → memory.store.free
       ≡ memory.profile.pixels - pixels_used (taken_of (reverse (filter is_region set) ++ older)))
       → KeepsButRegions cleared memory → HasRegions set before page first memory

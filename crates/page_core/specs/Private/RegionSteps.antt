@@ -82,20 +82,20 @@ slot_in composition id = option_map (λ (kept : KeptRegion). kept.slot) (region_
 -- ---- what the numbers of a segment are
 
 -- the numbers of a region segment's head fit their fields, and its sides are at least 1
-pub record IsRightHead (head : RegionHead) : Type 0 where
+pub record IsValidHead (head : RegionHead) : Type 0 where
   pub fits : FitsHead head
   pub region : head.region < 256
   pub width : 1 ≤ head.width
   pub height : 1 ≤ head.height
 
-abbrev pub IsRightValue : SegmentValue → Type 0
-IsRightValue (of_page value) = Unit {0}
-IsRightValue (of_region value) = IsRightHead value.head
-IsRightValue (of_clut value) = Unit {0}
-IsRightValue (of_object value) = Unit {0}
-IsRightValue (of_display value) = Unit {0}
-IsRightValue end_of_set = Unit {0}
-IsRightValue passed_over = Unit {0}
+abbrev pub IsValidValue : SegmentValue → Type 0
+IsValidValue (of_page value) = Unit {0}
+IsValidValue (of_region value) = IsValidHead value.head
+IsValidValue (of_clut value) = Unit {0}
+IsValidValue (of_object value) = Unit {0}
+IsValidValue (of_display value) = Unit {0}
+IsValidValue end_of_set = Unit {0}
+IsValidValue passed_over = Unit {0}
 
 -- ---- the regions and their pixels
 
@@ -234,7 +234,7 @@ pub record AreReady (profile : Profile) (segments left : List Content) (composit
 
 -- the regions of a set are right behind older segments: none changes the size or depth of another, all have room in the
 -- store, and there are nodes for what the epoch has with them
-pub record AreRegionsRight (older set : List Content) (memory : Memory) : Type 0 where
+pub record AreRegionsValid (older set : List Content) (memory : Memory) : Type 0 where
   pub changed : first_in region_changed older (filter is_region set) ≡ None
   pub room : first_in (pixels_full memory.profile) older (filter is_region set) ≡ None
   pub free : memory.store.free ≡ memory.profile.pixels - pixels_used (taken_of older)

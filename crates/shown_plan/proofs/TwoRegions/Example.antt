@@ -46,7 +46,7 @@ epoch = record {
   cues = cue_until 0 180000 8 ∷ cue_until 1 450000 9 ∷ [];
 }
 
--- ---- they are right
+-- ---- they are valid
 
 -- a relation of each element with each later one
 abbrev Pairs : {X : Type 0} → (X → X → Type 0) → List X → Type 0
@@ -57,8 +57,8 @@ pairs : {X : Type 0} (R : X → X → Type 0) (xs : List X) → Pairs R xs → A
 pairs R [] h = λ i j d before inside. absurd (omega (arith, inside))
 pairs R (x ∷ xs) h = AllPairs-cons R x xs (All-from_recursion (R x) xs h.0) (pairs R xs h.1)
 
-right_region : (id row : ℕ) → id ≤ 255 → row + 1 ≤ 2 → IsRegion 1 2 (region_at id row)
-right_region id row small above = record {
+valid_region : (id row : ℕ) → id ≤ 255 → row + 1 ≤ 2 → IsRegion 1 2 (region_at id row)
+valid_region id row small above = record {
   numbers = (small, omega arith);
   wide = omega arith;
   high = omega arith;
@@ -66,11 +66,11 @@ right_region id row small above = record {
   down = above;
 }
 
-right_regions : AreRegions 1 2 epoch.regions
-right_regions = record {
+valid_regions : AreRegions 1 2 epoch.regions
+valid_regions = record {
   many = omega arith;
   each = All-from_recursion (IsRegion 1 2) epoch.regions
-      (right_region 0 0 (omega arith) (omega arith), (right_region 1 1 (omega arith) (omega arith), tt));
+      (valid_region 0 0 (omega arith) (omega arith), (valid_region 1 1 (omega arith) (omega arith), tt));
   apart = pairs AreSeparate epoch.regions
       ((record { ids = λ same. omega (arith, same); rows = inl (omega arith) }, tt), (tt, tt));
 }
@@ -104,16 +104,16 @@ second_cue = record {
   fits = record { across = omega arith; down = omega arith; shallow = omega arith };
 }
 
-right_epoch : IsEpoch 0 1 2 (picture ∷ []) epoch
-right_epoch = record {
+valid_epoch : IsEpoch 0 1 2 (picture ∷ []) epoch
+valid_epoch = record {
   starts = tick_is 90000 (omega arith);
-  regions = right_regions;
+  regions = valid_regions;
   colours = All-nil (IsColourRow 0 90000);
   cues = All-from_recursion (IsCue 0 90000 epoch.regions (picture ∷ [])) epoch.cues (first_cue, (second_cue, tt));
 }
 
-right_picture : IsPicture picture
-right_picture = record {
+valid_picture : IsPicture picture
+valid_picture = record {
   wide = (omega arith, omega arith);
   high = (omega arith, omega arith);
   full = refl;
@@ -150,8 +150,8 @@ ticks_apart = pairs AreTicksApart (90000 ∷ 90000 ∷ 180000 ∷ 90000 ∷ 4500
   ),
 )
 
-pub right_script : IsSoundScript 0 1 2 180000 (epoch ∷ []) (picture ∷ [])
-right_script = record {
+pub valid_script : IsSoundScript 0 1 2 180000 (epoch ∷ []) (picture ∷ [])
+valid_script = record {
   early = omega arith;
   wide = (omega arith, omega arith);
   high = (omega arith, omega arith);
@@ -160,13 +160,13 @@ right_script = record {
   often = (omega arith, omega arith);
   some_epoch = omega arith;
   few_epochs = omega arith;
-  each = All-from_recursion (IsEpoch 0 1 2 (picture ∷ [])) (epoch ∷ []) (right_epoch, tt);
+  each = All-from_recursion (IsEpoch 0 1 2 (picture ∷ [])) (epoch ∷ []) (valid_epoch, tt);
   follow = pairs Follows (epoch ∷ []) (tt, tt);
   apart = ticks_apart;
   few_colours = omega arith;
   few_cues = omega arith;
   few_pictures = omega arith;
-  drawn = All-from_recursion IsPicture (picture ∷ []) (right_picture, tt);
+  drawn = All-from_recursion IsPicture (picture ∷ []) (valid_picture, tt);
   small = omega arith;
 }
 
@@ -181,5 +181,5 @@ script = record {
   refresh = 180000;
   epochs = epoch ∷ [];
   pictures = picture ∷ [];
-  sound = ∣ right_script ∣₁;
+  sound = ∣ valid_script ∣₁;
 }

@@ -11,7 +11,7 @@ use Rattle.stream_syntax.specs.Fields.{Field, FitsFields, number, reserved}
 use Rattle.stream_syntax.specs.PixelBlocks.{AreParts, IsNoDeeper, Part, line_end, runs_after, string}
 use Rattle.stream_syntax.specs.PixelCodes.{IsCode, IsRowString, bits, bits_of, ending, pixel, spelled as spelled_code}
 use Rattle.stream_syntax.specs.SegmentTests.{AreBlocks}
-use Rattle.stream_syntax.specs.Segments.{HasShownColours, IsRight, IsWritable, SegmentValue, end_of_set, spelled, written_fields}
+use Rattle.stream_syntax.specs.Segments.{HasShownColours, IsValid, IsWritable, SegmentValue, end_of_set, spelled, written_fields}
 use Rattle.pixel_codes.proofs.RowStrings.{row_string}
 use Rattle.pixel_codes.specs.Private.Least.{chosen_within, eight_none, eight_some, four_none, four_some, two_none, two_some}
 use Rattle.pixel_codes.specs.Private.Rows.{codes_of, runs_of}
@@ -98,8 +98,8 @@ drawn = record {
   own = λ differ. bottom_drawn;
 }
 
-right_blocks : AreBlocks top bottom
-right_blocks = record {
+valid_blocks : AreBlocks top bottom
+valid_blocks = record {
   top_runs = runs_after Eight [] top_parts;
   top_is = record { parts = top_parts; whole = top_is Eight (omega arith); drawn = refl };
   bottom_runs = [];
@@ -132,12 +132,12 @@ fits_if (number width n ∷ fields) fit =
     (grind (arith, nat_tests, fit), fits_if fields (grind (arith, nat_tests, fit)))
 fits_if (reserved width ∷ fields) fit = (tt, fits_if fields (grind (arith, nat_tests, fit)))
 
-abbrev IsRightShown : SegmentValue → Type 0
-IsRightShown value = IsRight value × HasShownColours value
+abbrev IsValidShown : SegmentValue → Type 0
+IsValidShown value = IsValid value × HasShownColours value
 
 writable_if : (values : List SegmentValue)
     → list_all (λ value. list_all is_fit (written_fields 1 value)) values ≡ true
-    → AllByRecursion IsRightShown values → All (IsWritable 1) values
+    → AllByRecursion IsValidShown values → All (IsWritable 1) values
 writable_if [] fit right = All-nil (IsWritable 1)
 writable_if (value ∷ values) fit right =
     All-cons (IsWritable 1) value values
@@ -182,7 +182,7 @@ first_written = writable_if (values_in first_set (0 ∷ 1 ∷ [])) refl (
     (tt, tt),
     (
       ((omega arith, omega arith), tt),
-      (((omega arith, omega arith), tt), ((right_blocks, tt), ((right_blocks, tt), ((tt, tt), tt)))),
+      (((omega arith, omega arith), tt), ((valid_blocks, tt), ((valid_blocks, tt), ((tt, tt), tt)))),
     ),
   ),
 )
@@ -240,7 +240,7 @@ third_written = writable_if (values_in third_set (1 ∷ [])) refl (
     (tt, tt),
     (
       ((omega arith, omega arith), tt),
-      (((omega arith, omega arith), tt), ((right_blocks, tt), ((tt, tt), tt))),
+      (((omega arith, omega arith), tt), ((valid_blocks, tt), ((tt, tt), tt))),
     ),
   ),
 )

@@ -1,10 +1,10 @@
 use Rattle.list_text.specs.ListText.{refused}
-use Rattle.list_text.proofs.ListLaws.{right_line}
+use Rattle.list_text.proofs.ListLaws.{valid_line}
 use Rattle.list_text.proofs.units.write_framed_line.Goals as goal
 
 pub returns-in-Ok-clause-line : goal.returns-in-Ok-clause-line
 returns-in-Ok-clause-line c bytes framed exact =
-    right_line c.args.place c.args.frame.now bytes _ _ framed exact (c.in-Ok.ensures.segment bytes framed)
+    valid_line c.args.place c.args.frame.now bytes _ _ framed exact (c.in-Ok.ensures.segment bytes framed)
     c.write_segment_line.ensures.line
 
 pub returns-in-Err-clause-line : goal.returns-in-Err-clause-line

@@ -1,6 +1,6 @@
 use Rattle.std.proofs.Common.{arith, sym, ◌∙◌, refl}
 use Rattle.std.proofs.lemmas.Bool.Decides.{nat_tests}
-use Rattle.psi_tables.proofs.SectionLaws.{PassesHead, bad_loop, right_value}
+use Rattle.psi_tables.proofs.SectionLaws.{PassesHead, bad_loop, valid_value}
 use Rattle.psi_tables.proofs.section.section_of.Goals as goal
 
 pub returns-then-not-is_body : goal.returns-then-not-is_body
@@ -25,5 +25,5 @@ returns c =
       table = sym c.is_table.ensures ∙ c.if-not-is_table.false;
       current = grind (arith, nat_tests, c.if-bytes-eq0.false);
     } in
-    right_value c.args.bytes.now c.twelve_at-length.result _ passes (sym c.is_body.ensures ∙ c.if-not-is_body.false)
+    valid_value c.args.bytes.now c.twelve_at-length.result _ passes (sym c.is_body.ensures ∙ c.if-not-is_body.false)
     (c.section_with.ensures ∙ rw c.word_at.ensures refl)

@@ -1,7 +1,7 @@
 -- The regions of a set are taken.
 use Rattle.std.proofs.Common.{refl, sym, subst, filter}
 use Rattle.page_core.specs.Memory.{HoldsSegments}
-use Rattle.page_core.specs.Private.RegionSteps.{AreRegionsRight}
+use Rattle.page_core.specs.Private.RegionSteps.{AreRegionsValid}
 use Rattle.page_core.specs.Private.Walks.{is_region}
 use Rattle.page_core.proofs.Counts.RegionNeeds.{are_regions}
 use Rattle.page_core.proofs.Regions.RegionsBegin.{ready_begins}
@@ -20,7 +20,7 @@ invariant_of-self c =
 pub returns-clause-holds : goal.returns-clause-holds
 returns-clause-holds c older set holds are apart right =
     let before = subst (HoldsSegments older) (sym c.self.view_is) holds in
-    let rights = subst (AreRegionsRight older set) (sym c.self.view_is) right in
+    let rights = subst (AreRegionsValid older set) (sym c.self.view_is) right in
     let stored = c.clear_renewed.ensures.stored c.self.inside.store (stored_whole _ c.self.invariant.whole) in
     let ready =
     ready_begins older set _ c.clear_renewed.new.composition before c.self.invariant.whole apart rights
@@ -32,7 +32,7 @@ returns-clause-holds c older set holds are apart right =
 pub returns-clause-pixels : goal.returns-clause-pixels
 returns-clause-pixels c older set holds are apart right =
     let before = subst (HoldsSegments older) (sym c.self.view_is) holds in
-    let rights = subst (AreRegionsRight older set) (sym c.self.view_is) right in
+    let rights = subst (AreRegionsValid older set) (sym c.self.view_is) right in
     let stored = c.clear_renewed.ensures.stored c.self.inside.store (stored_whole _ c.self.invariant.whole) in
     let ready =
     ready_begins older set _ c.clear_renewed.new.composition before c.self.invariant.whole apart rights
