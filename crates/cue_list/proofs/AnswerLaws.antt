@@ -5,10 +5,10 @@ use Rattle.bitmap_font.specs.Font.{FontValue}
 use Rattle.cue_list.specs.declared.epoch.Epoch.{Epoch}
 use Rattle.cue_list.specs.declared.fault.ScriptFault.{ScriptFault}
 use Rattle.cue_list.specs.declared.fault.ScriptFault.TheVariants.{Memory, Refused}
-use Rattle.cue_list.specs.declared.fault.ScriptKind.{ScriptKind}
+use Rattle.cue_records.specs.declared.fault.ScriptKind.{ScriptKind}
 use Rattle.cue_list.specs.declared.script.Script.{Script}
 use Rattle.cue_list.specs.Past.{looking_back}
-use Rattle.cue_list.specs.Records.{Record, records_of, records_before, record_at}
+use Rattle.cue_records.specs.Records.{Record, records_of, records_before, record_at}
 use Rattle.cue_list.specs.RowFaults.{fault_of}
 use Rattle.cue_list.specs.ScriptRows.{AreValidRecords, IsScript, IsRefusedRecord, IsScriptFault, AnswersScriptFault}
 

@@ -2,16 +2,16 @@ use Rattle.std.proofs.Common.{◌≡◌, ◌∙◌, sym, ap, ℕ, ◌+◌, Bool,
 use Rattle.bitmap_font.specs.Font.{FontValue}
 use Rattle.cue_list.specs.declared.epoch.Cue.{Cue}
 use Rattle.cue_list.specs.declared.epoch.Epoch.{Epoch}
-use Rattle.cue_list.specs.declared.epoch.Region.{Region}
-use Rattle.cue_list.specs.declared.row_values.PictureHead.{PictureHead}
-use Rattle.cue_list.specs.declared.row_values.PlaceRow.{PlaceRow}
-use Rattle.cue_list.specs.declared.row_kind.RowKind.TheVariants as kinds
-use Rattle.cue_list.specs.CellFaults.{value_at}
-use Rattle.cue_list.specs.Cells.{cell_at}
-use Rattle.cue_list.specs.Past.{ScriptPast, area, with_last, region_with, head_by, cue_with}
+use Rattle.cue_records.specs.declared.region.Region.{Region}
+use Rattle.cue_records.specs.declared.row_values.PictureHead.{PictureHead}
+use Rattle.cue_records.specs.declared.row_values.PlaceRow.{PlaceRow}
+use Rattle.cue_records.specs.declared.row_kind.RowKind.TheVariants as kinds
+use Rattle.cue_records.specs.CellFaults.{value_at}
+use Rattle.cue_records.specs.Cells.{cell_at}
+use Rattle.cue_list.specs.Past.{ScriptPast, with_last, region_with, head_by, cue_with}
+use Rattle.cue_records.specs.RowValues.{area, placing_in}
 use Rattle.cue_list.specs.RowFaults.{regions_of}
-use Rattle.cue_list.specs.RowValues.{placing_in}
-use Rattle.cue_list.specs.Rows.{Row}
+use Rattle.cue_records.specs.Rows.{Row}
 use Rattle.cue_list.specs.Private.State.{area_of, with_cue, cue_next}
 use Rattle.cue_list.specs.TextSizes.{text_head}
 use Rattle.cue_list.specs.Private.Ticks.{near_with}

@@ -8,7 +8,7 @@ use Rattle.sub_base.specs.Colour.{default_of}
 use Rattle.sub_base.specs.Depth.{bits_of}
 use Rattle.sub_base.specs.declared.colour.Colour.{Colour}
 use Rattle.sub_base.specs.declared.depth.Depth.{Depth}
-use Rattle.cue_list.specs.declared.epoch.ColourRow.{ColourRow}
+use Rattle.cue_records.specs.declared.row_values.ColourRow.{ColourRow}
 use Rattle.cue_list.specs.Authored.{sets_entry, later_row, latest_row, colour_or_default}
 use Rattle.cue_list.specs.Planes.{sets_clut, tick_or_zero, IsEntryAfter}
 

@@ -7,21 +7,23 @@ use Rattle.std.proofs.lemmas.List.Quantifiers.{all_pairs_push}
 use Rattle.sub_base.specs.Colour.{shown_of}
 use Rattle.sub_base.specs.declared.colour.Colour.{Colour}
 use Rattle.sub_base.specs.Depth.{bits_of, code_count}
-use Rattle.cue_list.specs.declared.limits.TheConstants.{LONGEST_CUE, LONGEST_SCRIPT, MOST_REGIONS}
-use Rattle.cue_list.specs.declared.epoch.ColourRow.{ColourRow}
+use Rattle.cue_records.specs.declared.limits.TheConstants.{LONGEST_CUE, LONGEST_SCRIPT, MOST_REGIONS}
+use Rattle.cue_records.specs.declared.row_values.ColourRow.{ColourRow}
 use Rattle.cue_list.specs.declared.epoch.Cue.{Cue}
 use Rattle.cue_list.specs.declared.epoch.Epoch.{Epoch}
-use Rattle.cue_list.specs.declared.epoch.Region.{Region}
-use Rattle.cue_list.specs.declared.row_values.PictureHead.{PictureHead}
-use Rattle.cue_list.specs.CellFaults.{value_at, value_of, number_fault, depth_fault, region_cells, colour_cells}
-use Rattle.cue_list.specs.Cells.{cell_at}
+use Rattle.cue_records.specs.declared.region.Region.{Region}
+use Rattle.cue_records.specs.declared.row_values.PictureHead.{PictureHead}
+use Rattle.cue_records.specs.CellFaults.{value_at, value_of, number_fault, depth_fault, region_cells, colour_cells}
+use Rattle.cue_records.specs.Cells.{cell_at}
 use Rattle.cue_list.specs.Past.{region_with}
-use Rattle.cue_list.specs.RowFaults.{starts_before, lasts_past, lies_on, share_row}
-use Rattle.cue_list.specs.RowValues.{region_in, colour_in}
-use Rattle.cue_list.specs.Rows.{Row}
+use Rattle.cue_list.specs.RowFaults.{starts_before, lasts_past}
+use Rattle.cue_records.specs.Regions.{lies_on, share_row}
+use Rattle.cue_records.specs.RowValues.{region_in, colour_in}
+use Rattle.cue_records.specs.Rows.{Row}
 use Rattle.cue_list.specs.Sound.{IsTick, IsRegion, AreSeparate, IsColourRow, Follows}
 use Rattle.cue_list.specs.Private.State.{with_region, with_colour, with_cue}
-use Rattle.cue_list.proofs.FactLaws.{passed, both-false, number-range}
+use Rattle.cue_records.proofs.TestLaws.{passed, both-false}
+use Rattle.cue_list.proofs.FactLaws.{number-range}
 use Rattle.cue_list.proofs.TicksApartLaws.{Member, Member-append, Member-at}
 
 -- a cue, by the depths and sides of the pictures

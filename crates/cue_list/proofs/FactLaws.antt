@@ -5,43 +5,21 @@ use Rattle.std.proofs.lemmas.Bool.Decides.{nat_tests}
 use Rattle.sub_base.specs.Depth.{bits_of, code_count}
 use Rattle.sub_base.specs.Number.{is_number}
 use Rattle.bitmap_font.specs.Font.{FontValue}
-use Rattle.cue_list.specs.declared.limits.TheConstants.{LONGEST_CUE, MOST_DIGITS}
-use Rattle.cue_list.specs.declared.epoch.ColourRow.{ColourRow}
-use Rattle.cue_list.specs.declared.epoch.Region.{Region}
-use Rattle.cue_list.specs.declared.fault.ScriptKind.{ScriptKind}
-use Rattle.cue_list.specs.declared.fault.ScriptKind.TheVariants as faults
-use Rattle.cue_list.specs.declared.row_values.PictureHead.{PictureHead}
-use Rattle.cue_list.specs.declared.row_values.PlaceRow.{PlaceRow}
-use Rattle.cue_list.specs.declared.row_kind.RowKind.{RowKind}
-use Rattle.cue_list.specs.CellFaults.{first_of, fails, value_of, number_fault, cells_fault}
+use Rattle.cue_records.specs.declared.limits.TheConstants.{LONGEST_CUE, MOST_DIGITS}
+use Rattle.cue_records.specs.declared.row_values.ColourRow.{ColourRow}
+use Rattle.cue_records.specs.declared.region.Region.{Region}
+use Rattle.cue_records.specs.declared.fault.ScriptKind.{ScriptKind}
+use Rattle.cue_records.specs.declared.fault.ScriptKind.TheVariants as faults
+use Rattle.cue_records.specs.declared.row_values.PictureHead.{PictureHead}
+use Rattle.cue_records.specs.declared.row_values.PlaceRow.{PlaceRow}
+use Rattle.cue_records.specs.declared.row_kind.RowKind.{RowKind}
+use Rattle.cue_records.specs.CellFaults.{fails, value_of, number_fault, cells_fault}
 use Rattle.cue_list.specs.Past.{ScriptPast, is_close, region_with}
-use Rattle.cue_list.specs.RowFaults.{fault_with, shape_fault, is_misplaced, is_full, kind_fault, epoch_fault, region_fault, colour_fault, span_fault, placed_fault, place_fault, cue_fault, set_fault, text_fault, glyph_fault, starts_before, lasts_past, lies_on, share_row, is_early, has_room_at, are_too_many, regions_of, head_at}
-use Rattle.cue_list.specs.Rows.{Row}
+use Rattle.cue_list.specs.RowFaults.{fault_with, shape_fault, is_misplaced, is_full, kind_fault, epoch_fault, region_fault, colour_fault, span_fault, placed_fault, place_fault, cue_fault, set_fault, text_fault, glyph_fault, starts_before, lasts_past, is_early, are_too_many, regions_of, head_at}
+use Rattle.cue_records.specs.Regions.{lies_on, share_row, has_room_at}
+use Rattle.cue_records.specs.Rows.{Row}
 use Rattle.cue_list.specs.TextSizes.{text_head, missing_glyph}
-
--- the first of tests that pass passes, and so do the others
-pub passed : (test : Option ScriptKind) (tests : List (Option ScriptKind)) → first_of (test ∷ tests) ≡ None
-    → (test ≡ None) × (first_of tests ≡ None)
-passed None tests h = (refl, h)
-passed (Some kind) tests h = absurd (let never : Some kind ≡ None = h in cc)
-
--- a test that passes
-pub right : (wrong : Bool) (kind : ScriptKind) (tests : List (Option ScriptKind))
-    → first_of (fails wrong kind ∷ tests) ≡ None → (wrong ≡ false) × (first_of tests ≡ None)
-right true kind tests h = absurd (let never : Some kind ≡ None = h in cc)
-right false kind tests h = (refl, h)
-
-pub not-false : (b : Bool) → not b ≡ false → b ≡ true
-not-false true h = refl
-not-false false h = absurd (let never : true ≡ false = h in cc)
-
-pub both-true : (a b : Bool) → (a && b) ≡ true → (a ≡ true) × (b ≡ true)
-both-true true b h = (refl, h)
-both-true false b h = absurd (let never : false ≡ true = h in cc)
-
-pub both-false : (a b : Bool) → (a || b) ≡ false → (a ≡ false) × (b ≡ false)
-both-false true b h = absurd (let never : true ≡ false = h in cc)
-both-false false b h = (refl, h)
+use Rattle.cue_records.proofs.TestLaws.{passed, right, not-false, both-true, both-false}
 
 -- a valid record stands in its place, has room, and its cells and its kind's tests are valid
 pub record IsValidRow (font : FontValue) (past : ScriptPast) (kind : RowKind) (number : ℕ) (cells : Row) : Type 0 where
@@ -50,10 +28,10 @@ pub record IsValidRow (font : FontValue) (past : ScriptPast) (kind : RowKind) (n
   pub cells_right : cells_fault past.origin kind cells ≡ None
   pub content : kind_fault font past kind number cells ≡ None
 
-pub IsRightRow-from : (font : FontValue) (past : ScriptPast) (kind : RowKind) (number : ℕ) (cells : Row)
+pub IsValidRow-from : (font : FontValue) (past : ScriptPast) (kind : RowKind) (number : ℕ) (cells : Row)
     → fault_with font past (record { number = number; kind = kind; cells = cells }) ≡ None
     → IsValidRow font past kind number cells
-IsRightRow-from font past kind number cells h =
+IsValidRow-from font past kind number cells h =
     let shape = passed (shape_fault kind cells) _ h in
     let place = right (is_misplaced past kind) faults.Order _ shape.1 in
     let full = right (is_full past kind) faults.TooMany _ place.1 in

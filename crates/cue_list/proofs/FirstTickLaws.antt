@@ -2,18 +2,18 @@
 use Rattle.std.proofs.Common.{◌≡◌, refl, ap, sym, ◌∙◌, ℕ, Bool, true, false, not, List, [], ◌∷◌, Option, Some, None}
 use Rattle.bitmap_font.specs.Font.{FontValue}
 use Rattle.sub_base.specs.Number.{number_of, is_number}
-use Rattle.cue_list.specs.declared.fault.ScriptKind.{ScriptKind}
-use Rattle.cue_list.specs.declared.fault.ScriptKind.TheVariants as faults
-use Rattle.cue_list.specs.declared.limits.TheConstants.{MOST_DIGITS}
-use Rattle.cue_list.specs.declared.row_kind.RowKind.{RowKind}
-use Rattle.cue_list.specs.declared.row_kind.RowKind.TheVariants as kinds
-use Rattle.cue_list.specs.CellFaults.{first_of, fails, number_fault, value_of, value_at, cells_fault, epoch_cells, colour_cells, placing_cells, place_cells, cue_cells}
-use Rattle.cue_list.specs.Cells.{cell_at}
+use Rattle.cue_records.specs.declared.fault.ScriptKind.{ScriptKind}
+use Rattle.cue_records.specs.declared.fault.ScriptKind.TheVariants as faults
+use Rattle.cue_records.specs.declared.limits.TheConstants.{MOST_DIGITS}
+use Rattle.cue_records.specs.declared.row_kind.RowKind.{RowKind}
+use Rattle.cue_records.specs.declared.row_kind.RowKind.TheVariants as kinds
+use Rattle.cue_records.specs.CellFaults.{first_of, fails, number_fault, value_of, value_at, cells_fault, epoch_cells, colour_cells, placing_cells, place_cells, cue_cells}
+use Rattle.cue_records.specs.Cells.{cell_at}
 use Rattle.cue_list.specs.Past.{ScriptPast}
 use Rattle.cue_list.specs.Private.FirstTicks.{tick_in, tick_read}
-use Rattle.cue_list.specs.Records.{kind_of, record_of}
+use Rattle.cue_records.specs.Records.{kind_of, record_of}
 use Rattle.cue_list.specs.RowFaults.{fault_with, is_full, is_misplaced, kind_fault, shape_fault}
-use Rattle.cue_list.specs.Rows.{Row}
+use Rattle.cue_records.specs.Rows.{Row}
 use Rattle.cue_list.specs.TickRows.{first_tick}
 
 -- where no test fails, the first does not

@@ -7,21 +7,21 @@ use Rattle.bitmap_font.proofs.OneSetting.{one_setting}
 use Rattle.sub_base.specs.declared.depth.Depth.{Depth}
 use Rattle.sub_base.specs.Picture.{Picture, IsPicture, code_at, picture_of}
 use Rattle.cue_list.specs.declared.epoch.Epoch.{Epoch}
-use Rattle.cue_list.specs.declared.epoch.Region.{Region}
+use Rattle.cue_records.specs.declared.region.Region.{Region}
 use Rattle.cue_list.specs.declared.fault.ScriptFault.{ScriptFault}
 use Rattle.cue_list.specs.declared.fault.ScriptFault.TheVariants.{Memory, Refused}
-use Rattle.cue_list.specs.declared.row_kind.RowKind.{RowKind}
-use Rattle.cue_list.specs.declared.row_kind.RowKind.TheVariants as kinds
-use Rattle.cue_list.specs.declared.row_values.PictureHead.{PictureHead}
+use Rattle.cue_records.specs.declared.row_kind.RowKind.{RowKind}
+use Rattle.cue_records.specs.declared.row_kind.RowKind.TheVariants as kinds
+use Rattle.cue_records.specs.declared.row_values.PictureHead.{PictureHead}
 use Rattle.cue_list.specs.declared.script.Script.{Script}
-use Rattle.cue_list.specs.CellFaults.{value_at}
-use Rattle.cue_list.specs.Cells.{cell_at}
+use Rattle.cue_records.specs.CellFaults.{value_at}
+use Rattle.cue_records.specs.Cells.{cell_at}
 use Rattle.cue_list.specs.Drawn.{Brings, IsPictureOf, IsPictureWith}
 use Rattle.cue_list.specs.Past.{region_with, regions_in}
-use Rattle.cue_list.specs.PixelRuns.{picture_codes}
-use Rattle.cue_list.specs.Records.{Record, records_of, records_before}
-use Rattle.cue_list.specs.RowValues.{head_in}
-use Rattle.cue_list.specs.Rows.{Row}
+use Rattle.cue_records.specs.PixelRuns.{picture_codes}
+use Rattle.cue_records.specs.Records.{Record, records_of, records_before}
+use Rattle.cue_records.specs.RowValues.{head_in}
+use Rattle.cue_records.specs.Rows.{Row}
 use Rattle.cue_list.specs.ScriptRows.{AreDrawn, HasValues, IsScript, IsScriptFault}
 use Rattle.cue_list.specs.Setting.{IsTextOf, IsTextPicture}
 use Rattle.cue_list.proofs.AnswerLaws.{script_or_fault}

@@ -2,15 +2,15 @@
 use Rattle.std.proofs.Common.{◌≡◌, ◌∙◌, refl, sym, ap, ℕ, ◌+◌, true, false, List, [], ◌∷◌, ◌++◌, length, find, Option, Some, None, is_some, option_map, sum_by, arith}
 use Rattle.std.proofs.lemmas.List.Sums.{sum_by-append}
 use Rattle.bitmap_font.specs.Font.{FontValue}
-use Rattle.cue_list.specs.declared.epoch.Region.{Region}
-use Rattle.cue_list.specs.declared.row_values.PictureHead.{PictureHead}
-use Rattle.cue_list.specs.declared.row_kind.RowKind.{RowKind}
-use Rattle.cue_list.specs.declared.row_kind.RowKind.TheVariants as kinds
-use Rattle.cue_list.specs.Past.{area, with_last, head_by, cue_by, looking_back, last_epoch, epoch_of, regions_in, heads_in, codes_in, place_named}
-use Rattle.cue_list.specs.Records.{Record, is}
+use Rattle.cue_records.specs.declared.region.Region.{Region}
+use Rattle.cue_records.specs.declared.row_values.PictureHead.{PictureHead}
+use Rattle.cue_records.specs.declared.row_kind.RowKind.{RowKind}
+use Rattle.cue_records.specs.declared.row_kind.RowKind.TheVariants as kinds
+use Rattle.cue_records.specs.RowValues.{area, region_in, colour_in, head_in}
+use Rattle.cue_list.specs.Past.{with_last, head_by, cue_by, looking_back, last_epoch, epoch_of, regions_in, heads_in, codes_in, place_named}
+use Rattle.cue_records.specs.Records.{Record, is}
 use Rattle.cue_list.specs.RowFaults.{regions_of}
-use Rattle.cue_list.specs.RowValues.{region_in, colour_in, head_in}
-use Rattle.cue_list.specs.Rows.{Row}
+use Rattle.cue_records.specs.Rows.{Row}
 use Rattle.cue_list.specs.Private.State.{next_with, with_region, with_colour, with_cue, area_of}
 
 abbrev pub row_with : RowKind → ℕ → Row → Record

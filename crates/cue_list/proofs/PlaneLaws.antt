@@ -5,7 +5,7 @@ use Rattle.sub_base.specs.Colour.{clear}
 use Rattle.sub_base.specs.Picture.{Picture, IsPicture, code_at, row_of}
 use Rattle.sub_base.specs.declared.colour.Colour.{Colour}
 use Rattle.sub_base.proofs.PictureLaws.{IsRow-row_of, get_or-row_of}
-use Rattle.cue_list.specs.declared.epoch.Region.{Region}
+use Rattle.cue_records.specs.declared.region.Region.{Region}
 use Rattle.cue_list.specs.Planes.{plane_at, colour_over, SetsRow, SetsAll, PaintsRows, FillsRows}
 
 -- one more row of a region got the colour

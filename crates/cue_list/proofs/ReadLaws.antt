@@ -7,19 +7,19 @@ use Rattle.csv.specs.declared.parser.State.{State}
 use Rattle.csv.specs.declared.parser.State.TheVariants as st
 use Rattle.sub_base.specs.Picture.{Picture}
 use Rattle.bitmap_font.specs.Font.{FontValue}
-use Rattle.cue_list.specs.declared.epoch.Region.{Region}
-use Rattle.cue_list.specs.declared.fault.ScriptKind.{ScriptKind}
-use Rattle.cue_list.specs.declared.fault.ScriptKind.TheVariants as faults
+use Rattle.cue_records.specs.declared.region.Region.{Region}
+use Rattle.cue_records.specs.declared.fault.ScriptKind.{ScriptKind}
+use Rattle.cue_records.specs.declared.fault.ScriptKind.TheVariants as faults
 use Rattle.cue_list.specs.declared.reader.Reader.{Reader}
-use Rattle.cue_list.specs.declared.row_kind.RowKind.{RowKind}
-use Rattle.cue_list.specs.declared.row_kind.RowKind.TheVariants as kinds
-use Rattle.cue_list.specs.CellFaults.{first_of, fails}
+use Rattle.cue_records.specs.declared.row_kind.RowKind.{RowKind}
+use Rattle.cue_records.specs.declared.row_kind.RowKind.TheVariants as kinds
+use Rattle.cue_records.specs.CellFaults.{first_of, fails}
 use Rattle.cue_list.specs.Drawn.{Brings}
 use Rattle.cue_list.specs.Private.HasRead.{HasRead}
 use Rattle.cue_list.specs.Past.{ScriptPast, looking_back, last_epoch, regions_in}
-use Rattle.cue_list.specs.Records.{Record, records_of, records_from as numbered, record_of, records_before, record_at}
+use Rattle.cue_records.specs.Records.{Record, records_of, records_from as numbered, record_of, records_before, record_at}
 use Rattle.cue_list.specs.RowFaults.{fault_with, fault_of, is_misplaced, regions_of}
-use Rattle.cue_list.specs.Rows.{Row, rows_of}
+use Rattle.cue_records.specs.Rows.{Row, rows_of}
 use Rattle.cue_list.specs.ScriptRows.{AreValidRecords, AreDrawn, IsRefusedRecord}
 use Rattle.cue_list.specs.Private.State.{IsReader, past_of, next_with}
 use Rattle.cue_list.proofs.PastLaws.{looking-back-more, regions-last}

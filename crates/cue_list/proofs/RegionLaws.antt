@@ -7,7 +7,7 @@ use Rattle.sub_base.specs.Picture.{Picture}
 use Rattle.sub_base.specs.declared.colour.Colour.{Colour}
 use Rattle.cue_list.specs.Authored.{authored_code, code_shown, code_of, covers, shows, lies_in, is_live, picture_at_place}
 use Rattle.cue_list.specs.Planes.{plane_at, colour_of, colour_over, FillsRows, PaintsRows, FitsIn, HasLive}
-use Rattle.cue_list.specs.declared.epoch.Region.{Region}
+use Rattle.cue_records.specs.declared.region.Region.{Region}
 use Rattle.cue_list.specs.declared.epoch.Cue.{Cue}
 
 -- the first of a list turned round that passes, with one more item behind

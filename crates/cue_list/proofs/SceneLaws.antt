@@ -12,10 +12,10 @@ use Rattle.sub_base.specs.Picture.{Picture}
 use Rattle.sub_base.specs.declared.colour.Colour.{Colour}
 use Rattle.cue_list.specs.Authored.{authored_code, authored_colour, is_live, code_of, colour_in, colour_with, lies_in, live_cues, shows, code_shown}
 use Rattle.cue_list.specs.Planes.{AreEntriesBy, AreCuesOf, FitsIn, ArePaintable, HasLive, PaintsRegion, ShowsRegions, colour_by_live, colour_of, plane_at}
-use Rattle.cue_list.specs.declared.epoch.ColourRow.{ColourRow}
+use Rattle.cue_records.specs.declared.row_values.ColourRow.{ColourRow}
 use Rattle.cue_list.specs.declared.epoch.Cue.{Cue}
 use Rattle.cue_list.specs.declared.epoch.Epoch.{Epoch}
-use Rattle.cue_list.specs.declared.epoch.Region.{Region}
+use Rattle.cue_records.specs.declared.region.Region.{Region}
 
 -- what is found among the first of a list, and among one more
 pub find_more : {X : Type 0} (p : X → Bool) (xs : List X) (k : ℕ) (d : X) → k < length xs →

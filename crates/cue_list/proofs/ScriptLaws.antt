@@ -10,27 +10,28 @@ use Rattle.sub_base.specs.declared.depth.Depth.TheVariants.{Two}
 use Rattle.bitmap_font.specs.Font.{FontValue}
 use Rattle.cue_list.specs.declared.epoch.Cue.{Cue}
 use Rattle.cue_list.specs.declared.epoch.Epoch.{Epoch}
-use Rattle.cue_list.specs.declared.epoch.Region.{Region}
-use Rattle.cue_list.specs.declared.fault.ScriptKind.{ScriptKind}
-use Rattle.cue_list.specs.declared.row_values.PictureHead.{PictureHead}
+use Rattle.cue_records.specs.declared.region.Region.{Region}
+use Rattle.cue_records.specs.declared.fault.ScriptKind.{ScriptKind}
+use Rattle.cue_records.specs.declared.row_values.PictureHead.{PictureHead}
 use Rattle.cue_list.specs.declared.reader.Reader.{Reader}
-use Rattle.cue_list.specs.declared.row_kind.RowKind.{RowKind}
-use Rattle.cue_list.specs.declared.row_kind.RowKind.TheVariants as kinds
+use Rattle.cue_records.specs.declared.row_kind.RowKind.{RowKind}
+use Rattle.cue_records.specs.declared.row_kind.RowKind.TheVariants as kinds
 use Rattle.cue_list.specs.Drawn.{Brings}
-use Rattle.cue_list.specs.CellFaults.{fails, is_text_row}
-use Rattle.cue_list.specs.declared.fault.ScriptKind.TheVariants as faults
+use Rattle.cue_records.specs.CellFaults.{fails, is_text_row}
+use Rattle.cue_records.specs.declared.fault.ScriptKind.TheVariants as faults
 use Rattle.cue_list.specs.Private.HasRead.{HasRead}
-use Rattle.cue_list.specs.Past.{ScriptPast, area, is_close, looking_back, last_epoch, ticks_by, ticks_in, with_last, regions_in}
-use Rattle.cue_list.specs.Records.{Record, cells_of, records_of, records_before, record_at}
+use Rattle.cue_list.specs.Past.{ScriptPast, is_close, looking_back, last_epoch, ticks_by, ticks_in, with_last, regions_in}
+use Rattle.cue_records.specs.RowValues.{area, colour_in, placing_in}
+use Rattle.cue_records.specs.Records.{Record, cells_of, records_of, records_before, record_at}
 use Rattle.cue_list.specs.RowFaults.{fault_with, fault_of, shape_fault}
-use Rattle.cue_list.specs.RowValues.{colour_in, placing_in}
-use Rattle.cue_list.specs.Rows.{Row}
+use Rattle.cue_records.specs.Rows.{Row}
 use Rattle.cue_list.specs.ScriptRows.{AreValidRecords, AreDrawn, Lists, IsScript}
 use Rattle.cue_list.specs.Authored.{picture_at_place}
 use Rattle.cue_list.specs.Sound.{IsSoundScript, IsEpoch, IsCue, IsColourRow, IsRegion, Follows, ticks_of}
 use Rattle.cue_list.specs.Private.State.{IsReader, past_of, head_of, next_with}
 use Rattle.cue_list.proofs.EpochLaws.{IsEpochOf, IsCueOf}
-use Rattle.cue_list.proofs.FactLaws.{IsRightRow-from, passed, right}
+use Rattle.cue_list.proofs.FactLaws.{IsValidRow-from}
+use Rattle.cue_records.proofs.TestLaws.{passed, right}
 use Rattle.cue_list.proofs.PastLaws.{row_with, looking-back-more}
 use Rattle.cue_list.proofs.ReadLaws.{before-more, cue-open, all-read}
 use Rattle.cue_list.proofs.SoundLaws.{EpochFacts-none, member-last, member-flat, colours_of, cues_of, in_last, sum-last, length-push}
@@ -53,23 +54,23 @@ sound-next : (font : FontValue) (past : ScriptPast) (ticks : List ℕ) (kind : R
     → SoundPast (next_with font past (row_with kind number cells)) (ticks_by kind cells ++ ticks)
 unfolding colour_in placing_in
 sound-next font past ticks kinds.Origin number cells sound none near =
-    sound-origin font past ticks number cells sound (IsRightRow-from font past kinds.Origin number cells none)
+    sound-origin font past ticks number cells sound (IsValidRow-from font past kinds.Origin number cells none)
 sound-next font past ticks kinds.Display number cells sound none near =
-    sound-display font past ticks number cells sound (IsRightRow-from font past kinds.Display number cells none)
+    sound-display font past ticks number cells sound (IsValidRow-from font past kinds.Display number cells none)
 sound-next font past ticks kinds.Refresh number cells sound none near =
-    sound-refresh font past ticks number cells sound (IsRightRow-from font past kinds.Refresh number cells none)
+    sound-refresh font past ticks number cells sound (IsValidRow-from font past kinds.Refresh number cells none)
 sound-next font past ticks kinds.Epoch number cells sound none near =
-    sound-epoch font past ticks number cells sound (IsRightRow-from font past kinds.Epoch number cells none) near
+    sound-epoch font past ticks number cells sound (IsValidRow-from font past kinds.Epoch number cells none) near
 sound-next font past ticks kinds.Region number cells sound none near =
-    sound-region font past ticks number cells sound (IsRightRow-from font past kinds.Region number cells none)
+    sound-region font past ticks number cells sound (IsValidRow-from font past kinds.Region number cells none)
 sound-next font past ticks kinds.Colour number cells sound none near =
-    sound-colour font past ticks number cells sound (IsRightRow-from font past kinds.Colour number cells none) near
+    sound-colour font past ticks number cells sound (IsValidRow-from font past kinds.Colour number cells none) near
 sound-next font past ticks kinds.Picture number cells sound none near =
-    sound-picture font past ticks number cells sound (IsRightRow-from font past kinds.Picture number cells none)
+    sound-picture font past ticks number cells sound (IsValidRow-from font past kinds.Picture number cells none)
 sound-next font past ticks kinds.Place number cells sound none near =
-    sound-place font past ticks number cells sound (IsRightRow-from font past kinds.Place number cells none) near
+    sound-place font past ticks number cells sound (IsValidRow-from font past kinds.Place number cells none) near
 sound-next font past ticks kinds.Cue number cells sound none near =
-    sound-cue font past ticks number cells sound (IsRightRow-from font past kinds.Cue number cells none) near
+    sound-cue font past ticks number cells sound (IsValidRow-from font past kinds.Cue number cells none) near
 sound-next font past ticks kinds.Other number cells sound none near =
     absurd (unknown-none cells (passed (shape_fault kinds.Other cells) _ none).0)
 

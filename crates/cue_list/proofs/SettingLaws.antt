@@ -7,14 +7,14 @@ use Rattle.bitmap_font.specs.Font.{GlyphValue, FontValue}
 use Rattle.bitmap_font.specs.Setting.{AllCanBeSet, IsFirstMissing, IsSetting, IsSetFault, widest_line, line_after}
 use Rattle.bitmap_font.specs.declared.set_fault.SetFault.{SetFault}
 use Rattle.bitmap_font.specs.declared.set_fault.SetFault.TheVariants as set
-use Rattle.cue_list.specs.declared.epoch.Region.{Region}
-use Rattle.cue_list.specs.declared.row_values.PlaceRow.{PlaceRow}
-use Rattle.cue_list.specs.declared.row_fault.RowFault.{RowFault}
-use Rattle.cue_list.specs.CellFaults.{first_of}
+use Rattle.cue_records.specs.declared.region.Region.{Region}
+use Rattle.cue_records.specs.declared.row_values.PlaceRow.{PlaceRow}
+use Rattle.cue_records.specs.declared.row_fault.RowFault.{RowFault}
+use Rattle.cue_records.specs.CellFaults.{first_of, IsRowFault}
 use Rattle.cue_list.specs.Past.{ScriptPast}
 use Rattle.cue_list.specs.RowFaults.{glyph_fault, text_fault}
 use Rattle.cue_list.specs.Setting.{row_fault_of}
-use Rattle.cue_list.specs.Private.State.{head_of, IsRowFault}
+use Rattle.cue_list.specs.Private.State.{head_of}
 use Rattle.cue_list.specs.TextSizes.{text_head, missing_glyph}
 
 -- a search finds the first element that passes

@@ -14,7 +14,7 @@ use Rattle.cue_list.specs.Sound.{IsSoundScript, IsEpoch, IsRegion, IsCue, AreSep
 use Rattle.cue_list.specs.Planes.{FitsIn, AreCuesOf, ArePaintable}
 use Rattle.cue_list.specs.declared.epoch.Cue.{Cue}
 use Rattle.cue_list.specs.declared.epoch.Epoch.{Epoch}
-use Rattle.cue_list.specs.declared.epoch.Region.{Region}
+use Rattle.cue_records.specs.declared.region.Region.{Region}
 
 -- a place at which what is found stands
 pub record Found {X : Type 0} (p : X → Bool) (xs : List X) (x : X) : Type 0 where

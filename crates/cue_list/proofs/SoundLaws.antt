@@ -4,10 +4,10 @@ use Rattle.std.specs.Prelude.{AllPairs}
 use Rattle.std.specs.List.{list_any, flat_map}
 use Rattle.std.proofs.lemmas.List.Quantifiers.{all_pairs_push}
 use Rattle.std.proofs.lemmas.List.Sums.{sum_by-append}
-use Rattle.cue_list.specs.declared.epoch.ColourRow.{ColourRow}
+use Rattle.cue_records.specs.declared.row_values.ColourRow.{ColourRow}
 use Rattle.cue_list.specs.declared.epoch.Cue.{Cue}
 use Rattle.cue_list.specs.declared.epoch.Epoch.{Epoch}
-use Rattle.cue_list.specs.declared.row_values.PictureHead.{PictureHead}
+use Rattle.cue_records.specs.declared.row_values.PictureHead.{PictureHead}
 use Rattle.cue_list.specs.Past.{with_last, is_close}
 use Rattle.cue_list.specs.RowFaults.{starts_before, lasts_past}
 use Rattle.cue_list.specs.Sound.{IsTick, Follows, ticks_of, ticks_of_cue}

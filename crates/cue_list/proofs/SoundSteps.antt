@@ -4,22 +4,24 @@ use Rattle.std.specs.Prelude.{slice_get}
 use Rattle.std.specs.List.{list_any}
 use Rattle.std.proofs.lemmas.Bool.Decides.{nat_tests}
 use Rattle.bitmap_font.specs.Font.{FontValue}
-use Rattle.cue_list.specs.declared.limits.TheConstants.{LONGEST_SCRIPT}
+use Rattle.cue_records.specs.declared.limits.TheConstants.{LONGEST_SCRIPT}
 use Rattle.cue_list.specs.declared.epoch.Cue.{Cue}
 use Rattle.cue_list.specs.declared.epoch.Epoch.{Epoch}
-use Rattle.cue_list.specs.declared.epoch.Region.{Region}
-use Rattle.cue_list.specs.declared.row_values.PictureHead.{PictureHead}
-use Rattle.cue_list.specs.declared.row_kind.RowKind.TheVariants as kinds
-use Rattle.cue_list.specs.CellFaults.{value_at, number_fault, placing_cells, place_cells, cue_cells, epoch_cells, display_cells, refresh_cells}
-use Rattle.cue_list.specs.Cells.{cell_at}
+use Rattle.cue_records.specs.declared.region.Region.{Region}
+use Rattle.cue_records.specs.declared.row_values.PictureHead.{PictureHead}
+use Rattle.cue_records.specs.declared.row_kind.RowKind.TheVariants as kinds
+use Rattle.cue_records.specs.CellFaults.{value_at, number_fault, placing_cells, place_cells, cue_cells, epoch_cells, display_cells, refresh_cells}
+use Rattle.cue_records.specs.Cells.{cell_at}
 use Rattle.cue_list.specs.Past.{ScriptPast, is_close, region_with, head_by, cue_by, cue_with, with_last}
-use Rattle.cue_list.specs.RowFaults.{is_used, share_row, has_room_at, is_early, head_at, regions_of}
-use Rattle.cue_list.specs.RowValues.{region_in, colour_in, head_in, placing_in, is_through}
-use Rattle.cue_list.specs.Rows.{Row}
+use Rattle.cue_list.specs.RowFaults.{is_used, is_early, head_at, regions_of}
+use Rattle.cue_records.specs.Regions.{share_row, has_room_at}
+use Rattle.cue_records.specs.RowValues.{region_in, colour_in, head_in, placing_in, is_through}
+use Rattle.cue_records.specs.Rows.{Row}
 use Rattle.cue_list.specs.Sound.{IsTick}
 use Rattle.cue_list.specs.Private.State.{next_with, with_region, with_colour, with_cue}
 use Rattle.cue_list.specs.TextSizes.{text_head}
-use Rattle.cue_list.proofs.FactLaws.{IsValidRow, IsValidPlacing, passed, both-false, number-range, epoch-right, region-right, colour-right, place-right, cue-right}
+use Rattle.cue_list.proofs.FactLaws.{IsValidRow, IsValidPlacing, number-range, epoch-right, region-right, colour-right, place-right, cue-right}
+use Rattle.cue_records.proofs.TestLaws.{passed, both-false}
 use Rattle.cue_list.proofs.EpochLaws.{IsCueOf, epoch-region, epoch-colour, epoch-cue, region-cells, colour-row, tick-range, get-last}
 use Rattle.cue_list.proofs.PastLaws.{row_with}
 use Rattle.cue_list.proofs.SoundLaws.{EpochFacts, EpochFacts-none, EpochFacts-new, EpochFacts-changed, EpochFacts-heads, TickFacts, TickFacts-new, TickFacts-same, TickFacts-colour, TickFacts-cue, colours_of, cues_of, in_last, sum-last, length-push}

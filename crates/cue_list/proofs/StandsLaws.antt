@@ -8,22 +8,24 @@ use Rattle.sub_base.specs.Picture.{Picture}
 use Rattle.bitmap_font.specs.Font.{FontValue}
 use Rattle.cue_list.specs.declared.reader.Reader.{Reader}
 use Rattle.cue_list.specs.declared.epoch.Epoch.{Epoch}
-use Rattle.cue_list.specs.declared.epoch.Region.{Region}
-use Rattle.cue_list.specs.declared.row_fault.RowFault.{RowFault}
-use Rattle.cue_list.specs.declared.row_fault.RowFault.TheVariants.{OutOfMemory, Wrong}
-use Rattle.cue_list.specs.declared.row_kind.RowKind.{RowKind}
-use Rattle.cue_list.specs.declared.row_kind.RowKind.TheVariants as kinds
+use Rattle.cue_records.specs.declared.region.Region.{Region}
+use Rattle.cue_records.specs.declared.row_fault.RowFault.{RowFault}
+use Rattle.cue_records.specs.declared.row_fault.RowFault.TheVariants.{OutOfMemory, Wrong}
+use Rattle.cue_records.specs.declared.row_kind.RowKind.{RowKind}
+use Rattle.cue_records.specs.declared.row_kind.RowKind.TheVariants as kinds
 use Rattle.cue_list.specs.declared.script.Script.{Script}
-use Rattle.cue_list.specs.Cells.{cell_at}
+use Rattle.cue_records.specs.Cells.{cell_at}
 use Rattle.cue_list.specs.Drawn.{Brings}
-use Rattle.cue_list.specs.Past.{ScriptPast, area, looking_back, last_epoch, regions_in, ticks_in, with_last}
-use Rattle.cue_list.specs.Records.{Record, kind_of, record_of, record_at, records_from, records_before}
+use Rattle.cue_list.specs.Past.{ScriptPast, looking_back, last_epoch, regions_in, ticks_in, with_last}
+use Rattle.cue_records.specs.RowValues.{area}
+use Rattle.cue_records.specs.Records.{Record, kind_of, record_of, record_at, records_from, records_before}
 use Rattle.cue_list.specs.RowFaults.{fault_of, fault_with, regions_of}
-use Rattle.cue_list.specs.Rows.{Row, rows_of}
+use Rattle.cue_records.specs.Rows.{Row, rows_of}
 use Rattle.cue_list.specs.ScriptRows.{AreDrawn, AreValidRecords, Lists}
 use Rattle.cue_list.specs.Sound.{IsSoundScript}
 use Rattle.cue_list.specs.TakenRows.{CanGoBack, IsRecordFault, IsScriptOf, Kept, Mark, StandsFor, TakesRow, heads_of, nearest, next_fault, numbered, without_heads}
-use Rattle.cue_list.specs.Private.State.{IsReader, IsRowFault, next_with, past_of, head_of}
+use Rattle.cue_list.specs.Private.State.{IsReader, next_with, past_of, head_of}
+use Rattle.cue_records.specs.CellFaults.{IsRowFault}
 use Rattle.cue_list.specs.Private.Taken.{kept_of, told_fault}
 use Rattle.cue_list.proofs.PastLaws.{looking-back-more, regions-last}
 use Rattle.cue_list.proofs.ReadLaws.{brings-with, cue-open, few-rows, length-numbered}

@@ -4,7 +4,7 @@ use Rattle.std.specs.List.{list_any}
 use Rattle.std.proofs.lemmas.Bool.Decides.{nat_tests}
 use Rattle.cue_list.specs.Past.{is_close}
 use Rattle.cue_list.specs.Sound.{AreTicksApart}
-use Rattle.cue_list.proofs.FactLaws.{both-false}
+use Rattle.cue_records.proofs.TestLaws.{both-false}
 
 -- x is one of these
 abbrev pub Member : {A : Type 0} → A → List A → Type 0

@@ -8,8 +8,8 @@ use Rattle.sub_base.specs.declared.colour.Colour.{Colour}
 use Rattle.sub_base.specs.declared.depth.Depth.{Depth}
 use Rattle.sub_base.specs.declared.depth.Depth.TheVariants.{Two}
 use Rattle.cue_list.specs.declared.epoch.Epoch.{Epoch}
-use Rattle.cue_list.specs.declared.epoch.Region.{Region}
-use Rattle.cue_list.specs.declared.epoch.ColourRow.{ColourRow}
+use Rattle.cue_records.specs.declared.region.Region.{Region}
+use Rattle.cue_records.specs.declared.row_values.ColourRow.{ColourRow}
 use Rattle.cue_list.specs.declared.epoch.Cue.{Cue}
 
 -- ---- epochs and live cues

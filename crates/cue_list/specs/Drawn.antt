@@ -2,14 +2,14 @@
 use Rattle.std.specs.Prelude.{◌≡◌, List, [], ◌∷◌, ◌++◌, ℕ, Some}
 use Rattle.bitmap_font.specs.Font.{FontValue}
 use Rattle.sub_base.specs.Picture.{Picture, IsPicture, picture_of}
-use Rattle.cue_list.specs.declared.epoch.Region.{Region}
-use Rattle.cue_list.specs.declared.row_values.PictureHead.{PictureHead}
-use Rattle.cue_list.specs.declared.row_kind.RowKind.{RowKind}
-use Rattle.cue_list.specs.declared.row_kind.RowKind.TheVariants as kinds
-use Rattle.cue_list.specs.Cells.{cell_at}
-use Rattle.cue_list.specs.PixelRuns.{picture_codes}
-use Rattle.cue_list.specs.RowValues.{head_in}
-use Rattle.cue_list.specs.Rows.{Row}
+use Rattle.cue_records.specs.declared.region.Region.{Region}
+use Rattle.cue_records.specs.declared.row_values.PictureHead.{PictureHead}
+use Rattle.cue_records.specs.declared.row_kind.RowKind.{RowKind}
+use Rattle.cue_records.specs.declared.row_kind.RowKind.TheVariants as kinds
+use Rattle.cue_records.specs.Cells.{cell_at}
+use Rattle.cue_records.specs.PixelRuns.{picture_codes}
+use Rattle.cue_records.specs.RowValues.{head_in}
+use Rattle.cue_records.specs.Rows.{Row}
 use Rattle.cue_list.specs.Setting.{IsTextOf}
 
 -- a picture of these sides, whose codes are those of a text

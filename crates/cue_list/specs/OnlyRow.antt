@@ -1,7 +1,7 @@
 -- The one record of a text.
 use Rattle.std.specs.Prelude.{◌≡◌, ◌≢◌, List, [], ◌∷◌, length, ℕ}
 use Rattle.csv.specs.Records.{fields_of}
-use Rattle.cue_list.specs.Rows.{rows_of}
+use Rattle.cue_records.specs.Rows.{rows_of}
 use Rattle.cue_list.specs.declared.single_rows.OnlyRow.{OnlyRow}
 use Rattle.cue_list.specs.declared.single_rows.OnlyRow.TheVariants as only
 

@@ -1,22 +1,22 @@
 -- What a record's tests look back to. The records before a record are given nearest first.
-use Rattle.std.specs.Prelude.{ℕ, ◌+◌, ◌*◌, ◌==◌, nat_lt, nat_le, Bool, true, false, ◌&&◌, ◌||◌, if◌then◌else◌, List, [], ◌∷◌, ◌++◌, length, find, chars, sum_by, Option, Some, None, option_map}
+use Rattle.std.specs.Prelude.{ℕ, ◌+◌, ◌==◌, nat_lt, nat_le, Bool, true, false, ◌&&◌, ◌||◌, if◌then◌else◌, List, [], ◌∷◌, ◌++◌, length, find, chars, sum_by, Option, Some, None, option_map}
 use Rattle.std.specs.List.{list_any, flat_map}
 use Rattle.std.specs.Option.{option_map_or}
 use Rattle.std.specs.Str.{bytes_eq}
 use Rattle.bitmap_font.specs.Font.{FontValue}
-use Rattle.cue_list.specs.declared.limits.TheConstants.{CLOSE_TICKS}
-use Rattle.cue_list.specs.declared.epoch.ColourRow.{ColourRow}
+use Rattle.cue_records.specs.declared.limits.TheConstants.{CLOSE_TICKS}
+use Rattle.cue_records.specs.declared.row_values.ColourRow.{ColourRow}
 use Rattle.cue_list.specs.declared.epoch.Cue.{Cue}
 use Rattle.cue_list.specs.declared.epoch.Epoch.{Epoch}
-use Rattle.cue_list.specs.declared.epoch.Region.{Region}
-use Rattle.cue_list.specs.declared.row_values.PictureHead.{PictureHead}
-use Rattle.cue_list.specs.declared.row_kind.RowKind.{RowKind}
-use Rattle.cue_list.specs.declared.row_kind.RowKind.TheVariants as kinds
-use Rattle.cue_list.specs.CellFaults.{value_at}
-use Rattle.cue_list.specs.Cells.{cell_at}
-use Rattle.cue_list.specs.Records.{Record, is}
-use Rattle.cue_list.specs.RowValues.{region_in, colour_in, head_in, placing_in, is_through}
-use Rattle.cue_list.specs.Rows.{Row}
+use Rattle.cue_records.specs.declared.region.Region.{Region}
+use Rattle.cue_records.specs.declared.row_values.PictureHead.{PictureHead}
+use Rattle.cue_records.specs.declared.row_kind.RowKind.{RowKind}
+use Rattle.cue_records.specs.declared.row_kind.RowKind.TheVariants as kinds
+use Rattle.cue_records.specs.CellFaults.{value_at}
+use Rattle.cue_records.specs.Cells.{cell_at}
+use Rattle.cue_records.specs.Records.{Record, is}
+use Rattle.cue_records.specs.RowValues.{area, region_in, colour_in, head_in, placing_in, is_through}
+use Rattle.cue_records.specs.Rows.{Row}
 use Rattle.cue_list.specs.TextSizes.{text_head}
 
 -- ---- lists
@@ -98,10 +98,6 @@ head_by font regions _ cells = None
 -- the depths and sides of the pictures
 abbrev pub heads_in : FontValue → List Record → List PictureHead
 heads_in font earlier = listed (λ before row. head_by font (regions_in before) row.kind row.cells) earlier
-
--- how many codes a picture has
-abbrev pub area : PictureHead → ℕ
-area head = head.width * head.height
 
 -- how many codes the pictures have
 abbrev pub codes_in : FontValue → List Record → ℕ

@@ -1,31 +1,27 @@
 -- What is wrong with a record, by what is found by looking back over the records before it: the first of its tests that
 -- fails.
-use Rattle.std.specs.Prelude.{ℕ, ◌+◌, ◌*◌, ◌==◌, nat_lt, nat_le, not, Bool, true, false, ◌&&◌, ◌||◌, if◌then◌else◌, List, [], ◌∷◌, length, chars, Option, Some, None, is_some, slice_get}
-use Rattle.std.specs.List.{list_any, list_all}
-use Rattle.std.specs.Option.{option_map_or}
+use Rattle.std.specs.Prelude.{ℕ, ◌+◌, ◌==◌, nat_lt, nat_le, not, Bool, true, false, ◌&&◌, ◌||◌, if◌then◌else◌, List, [], ◌∷◌, length, chars, Option, Some, None, is_some, slice_get}
+use Rattle.std.specs.List.{list_any}
 use Rattle.sub_base.specs.Depth.{bits_of, code_count}
-use Rattle.sub_base.specs.declared.depth.Depth.{Depth}
-use Rattle.sub_base.specs.declared.depth.Depth.TheVariants.{Two, Four, Eight}
 use Rattle.bitmap_font.specs.Font.{FontValue}
-use Rattle.cue_list.specs.declared.limits.TheConstants.{LONGEST_CUE, LONGEST_NAME, MOST_CODES, MOST_COLOURS, MOST_CUES, MOST_EPOCHS, MOST_HEIGHT, MOST_PICTURES, MOST_REGIONS, MOST_WIDTH}
-use Rattle.cue_list.specs.declared.epoch.ColourRow.{ColourRow}
+use Rattle.cue_records.specs.declared.limits.TheConstants.{LONGEST_CUE, LONGEST_NAME, MOST_CODES, MOST_COLOURS, MOST_CUES, MOST_EPOCHS, MOST_HEIGHT, MOST_PICTURES, MOST_REGIONS, MOST_WIDTH}
+use Rattle.cue_records.specs.declared.row_values.ColourRow.{ColourRow}
 use Rattle.cue_list.specs.declared.epoch.Epoch.{Epoch}
-use Rattle.cue_list.specs.declared.epoch.Region.{Region}
-use Rattle.cue_list.specs.declared.fault.ScriptKind.{ScriptKind}
-use Rattle.cue_list.specs.declared.fault.ScriptKind.TheVariants as faults
-use Rattle.cue_list.specs.declared.row_values.PictureHead.{PictureHead}
-use Rattle.cue_list.specs.declared.row_values.PlaceRow.{PlaceRow}
-use Rattle.cue_list.specs.declared.runs.PixelRun.{PixelRun}
-use Rattle.cue_list.specs.declared.row_kind.RowKind.{RowKind}
-use Rattle.cue_list.specs.declared.row_kind.RowKind.TheVariants as kinds
-use Rattle.cue_list.specs.CellFaults.{first_of, fails, value_at, cells_fault, is_text_row}
-use Rattle.cue_list.specs.Cells.{cell_at}
-use Rattle.cue_list.specs.Codes.{hex_value}
-use Rattle.cue_list.specs.Past.{ScriptPast, area, is_close, region_with, looking_back}
-use Rattle.cue_list.specs.PixelRuns.{is_in_runs, pixel_count, runs_in}
-use Rattle.cue_list.specs.Records.{Record, cells_of}
-use Rattle.cue_list.specs.RowValues.{region_in, colour_in, head_in, placing_in}
-use Rattle.cue_list.specs.Rows.{Row}
+use Rattle.cue_records.specs.declared.region.Region.{Region}
+use Rattle.cue_records.specs.declared.fault.ScriptKind.{ScriptKind}
+use Rattle.cue_records.specs.declared.fault.ScriptKind.TheVariants as faults
+use Rattle.cue_records.specs.declared.row_values.PictureHead.{PictureHead}
+use Rattle.cue_records.specs.declared.row_values.PlaceRow.{PlaceRow}
+use Rattle.cue_records.specs.declared.row_kind.RowKind.{RowKind}
+use Rattle.cue_records.specs.declared.row_kind.RowKind.TheVariants as kinds
+use Rattle.cue_records.specs.CellFaults.{first_of, fails, value_at, cells_fault, is_text_row}
+use Rattle.cue_records.specs.Cells.{cell_at}
+use Rattle.cue_records.specs.CodeFaults.{pixels_fault}
+use Rattle.cue_list.specs.Past.{ScriptPast, is_close, region_with, looking_back}
+use Rattle.cue_records.specs.RowValues.{area, region_in, colour_in, head_in, placing_in}
+use Rattle.cue_records.specs.Regions.{has_room_at, lies_on, share_row}
+use Rattle.cue_records.specs.Records.{Record, cells_of}
+use Rattle.cue_records.specs.Rows.{Row}
 use Rattle.cue_list.specs.TextSizes.{text_head, missing_glyph}
 
 -- ---- the place of a record
@@ -93,14 +89,6 @@ epoch_fault past start = first_of (
     ∷ fails (past.is_near start) faults.TooClose
     ∷ [])
 
--- a region lies on a display
-abbrev pub lies_on : ℕ → ℕ → Region → Bool
-lies_on width height region = nat_le (region.x + region.width) width && nat_le (region.y + region.height) height
-
--- two regions share a row of the display
-abbrev pub share_row : Region → Region → Bool
-share_row first second = nat_lt first.y (second.y + second.height) && nat_lt second.y (first.y + first.height)
-
 unfoldable pub region_fault : ScriptPast → Region → Option ScriptKind
 region_fault past region = first_of (
     fails (is_some (region_with region.id (regions_of past.epoch))) faults.DoubleRegion
@@ -122,45 +110,6 @@ colour_fault past row = first_of (
 
 -- ---- pictures
 
--- how many digits a code has
-abbrev pub digits_of : Depth → ℕ
-digits_of Two = 1
-digits_of Four = 1
-digits_of Eight = 2
-
-abbrev pub is_hex : ℕ → Bool
-is_hex character = is_some (hex_value character)
-
--- a digit is too large for the depth
-abbrev pub is_large : Depth → ℕ → Bool
-is_large Two character = option_map_or (λ value. nat_lt 3 value) (hex_value character) false
-is_large _ character = false
-
--- codes are hexadecimal digits, one a code, two at 8 bits
-unfoldable pub codes_fault : PictureHead → List ℕ → Option ScriptKind
-codes_fault head characters = first_of (
-    fails (not (length characters == digits_of head.depth * area head)) faults.Count
-    ∷ fails (not (list_all is_hex characters)) faults.Number
-    ∷ fails (list_any (is_large head.depth) characters) faults.CodeRange
-    ∷ [])
-
--- so many pixels are wanted of runs, and codes that the depth has
-abbrev pub sum_fault : Depth → ℕ → Option (List PixelRun) → Option ScriptKind
-sum_fault depth wanted None = Some faults.Number
-sum_fault depth wanted (Some runs) = first_of (
-    fails (not (pixel_count runs == wanted)) faults.Count
-    ∷ fails (list_any (λ run. nat_le (code_count depth) run.code) runs) faults.CodeRange
-    ∷ [])
-
--- each piece of a text of runs is a run; they have as many pixels as are wanted, of codes that the depth has
-unfoldable pub runs_fault : Depth → ℕ → List ℕ → Option ScriptKind
-runs_fault depth wanted text = sum_fault depth wanted (runs_in depth text)
-
--- codes in runs, or one by one
-unfoldable pub pixels_fault : PictureHead → List ℕ → Option ScriptKind
-pixels_fault head text =
-    if is_in_runs text then runs_fault head.depth (area head) text else codes_fault head (chars text)
-
 -- a picture's name has 1 to 64 bytes
 abbrev pub is_name : List ℕ → Bool
 is_name name = nat_le 1 (length name) && nat_le (length name) LONGEST_NAME
@@ -173,10 +122,6 @@ picture_fault past head cells = first_of (
     ∷ [])
 
 -- ---- places and cues
-
--- a picture lies inside a region at a place
-abbrev pub has_room_at : Region → ℕ → ℕ → PictureHead → Bool
-has_room_at region x y head = nat_le (x + head.width) region.width && nat_le (y + head.height) region.height
 
 -- a span of ticks in an epoch
 unfoldable pub span_fault : ScriptPast → ℕ → ℕ → Option ScriptKind

@@ -5,12 +5,12 @@ use Rattle.bitmap_font.specs.Font.{FontValue}
 use Rattle.cue_list.specs.declared.epoch.Epoch.{Epoch}
 use Rattle.cue_list.specs.declared.fault.ScriptFault.{ScriptFault}
 use Rattle.cue_list.specs.declared.fault.ScriptFault.TheVariants.{Memory, Refused}
-use Rattle.cue_list.specs.declared.fault.ScriptKind.{ScriptKind}
-use Rattle.cue_list.specs.declared.fault.ScriptKind.TheVariants as faults
+use Rattle.cue_records.specs.declared.fault.ScriptKind.{ScriptKind}
+use Rattle.cue_records.specs.declared.fault.ScriptKind.TheVariants as faults
 use Rattle.cue_list.specs.declared.script.Script.{Script}
 use Rattle.cue_list.specs.Drawn.{Brings}
 use Rattle.cue_list.specs.Past.{with_last, looking_back, regions_in}
-use Rattle.cue_list.specs.Records.{Record, records_of, records_before, record_at}
+use Rattle.cue_records.specs.Records.{Record, records_of, records_before, record_at}
 use Rattle.cue_list.specs.RowFaults.{fault_of}
 use Rattle.sub_base.specs.declared.pace.TheConstants.{SECOND}
 

@@ -5,14 +5,14 @@ use Rattle.bitmap_font.specs.Font.{FontValue}
 use Rattle.bitmap_font.specs.Setting.{IsSetting}
 use Rattle.bitmap_font.specs.declared.set_fault.SetFault.{SetFault}
 use Rattle.bitmap_font.specs.declared.set_fault.SetFault.TheVariants as set
-use Rattle.cue_list.specs.declared.epoch.Region.{Region}
-use Rattle.cue_list.specs.declared.fault.ScriptKind.TheVariants as faults
-use Rattle.cue_list.specs.declared.row_fault.RowFault.{RowFault}
-use Rattle.cue_list.specs.declared.row_fault.RowFault.TheVariants.{OutOfMemory, Wrong}
-use Rattle.cue_list.specs.CellFaults.{value_at}
-use Rattle.cue_list.specs.Cells.{cell_at}
+use Rattle.cue_records.specs.declared.region.Region.{Region}
+use Rattle.cue_records.specs.declared.fault.ScriptKind.TheVariants as faults
+use Rattle.cue_records.specs.declared.row_fault.RowFault.{RowFault}
+use Rattle.cue_records.specs.declared.row_fault.RowFault.TheVariants.{OutOfMemory, Wrong}
+use Rattle.cue_records.specs.CellFaults.{value_at}
+use Rattle.cue_records.specs.Cells.{cell_at}
 use Rattle.cue_list.specs.Past.{region_with}
-use Rattle.cue_list.specs.Rows.{Row}
+use Rattle.cue_records.specs.Rows.{Row}
 
 -- the fault of a record whose text cannot be set
 abbrev pub row_fault_of : SetFault → RowFault

@@ -4,10 +4,10 @@ use Rattle.std.specs.List.{flat_map}
 use Rattle.sub_base.specs.Colour.{shown_of}
 use Rattle.sub_base.specs.Depth.{bits_of, code_count}
 use Rattle.sub_base.specs.Picture.{Picture, IsPicture}
-use Rattle.cue_list.specs.declared.limits.TheConstants.{CLOSE_TICKS, LATEST_ORIGIN, LONGEST_CUE, LONGEST_SCRIPT, MOST_CODES, MOST_COLOURS, MOST_CUES, MOST_EPOCHS, MOST_HEIGHT, MOST_PICTURES, MOST_REGIONS, MOST_WIDTH}
+use Rattle.cue_records.specs.declared.limits.TheConstants.{CLOSE_TICKS, LATEST_ORIGIN, LONGEST_CUE, LONGEST_SCRIPT, MOST_CODES, MOST_COLOURS, MOST_CUES, MOST_EPOCHS, MOST_HEIGHT, MOST_PICTURES, MOST_REGIONS, MOST_WIDTH}
 use Rattle.cue_list.specs.declared.epoch.Epoch.{Epoch}
-use Rattle.cue_list.specs.declared.epoch.Region.{Region}
-use Rattle.cue_list.specs.declared.epoch.ColourRow.{ColourRow}
+use Rattle.cue_records.specs.declared.region.Region.{Region}
+use Rattle.cue_records.specs.declared.row_values.ColourRow.{ColourRow}
 use Rattle.cue_list.specs.declared.epoch.Cue.{Cue}
 use Rattle.cue_list.specs.Authored.{picture_at_place}
 use Rattle.sub_base.specs.declared.pace.TheConstants.{SECOND}

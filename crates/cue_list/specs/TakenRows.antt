@@ -2,15 +2,15 @@
 use Rattle.std.specs.Prelude.{◌≡◌, ℕ, ◌+◌, List, [], ◌∷◌, ◌++◌, length, map, reverse, take, Option, Some, None}
 use Rattle.sub_base.specs.Picture.{Picture}
 use Rattle.bitmap_font.specs.Font.{FontValue}
-use Rattle.cue_list.specs.declared.fault.ScriptKind.{ScriptKind}
-use Rattle.cue_list.specs.declared.row_values.PictureHead.{PictureHead}
+use Rattle.cue_records.specs.declared.fault.ScriptKind.{ScriptKind}
+use Rattle.cue_records.specs.declared.row_values.PictureHead.{PictureHead}
 use Rattle.cue_list.specs.declared.script.Script.{Script}
 use Rattle.cue_list.specs.declared.script_reader.RecordFault.{RecordFault}
 use Rattle.cue_list.specs.declared.script_reader.RecordFault.TheVariants as record_faults
 use Rattle.cue_list.specs.Past.{ScriptPast, looking_back}
-use Rattle.cue_list.specs.Records.{Record, record_of, records_from, records_before}
+use Rattle.cue_records.specs.Records.{Record, record_of, records_from, records_before}
 use Rattle.cue_list.specs.RowFaults.{fault_of}
-use Rattle.cue_list.specs.Rows.{Row}
+use Rattle.cue_records.specs.Rows.{Row}
 use Rattle.cue_list.specs.ScriptRows.{AreDrawn, AreValidRecords, Lists}
 
 -- ---- rows as records

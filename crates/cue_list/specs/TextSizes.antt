@@ -3,7 +3,7 @@ use Rattle.std.specs.Prelude.{ℕ, ◌+◌, ◌*◌, ◌==◌, not, ◌&&◌, Li
 use Rattle.sub_base.specs.declared.depth.Depth.{Depth}
 use Rattle.bitmap_font.specs.Font.{FontValue, glyph_of}
 use Rattle.bitmap_font.specs.Setting.{widest_line, line_after}
-use Rattle.cue_list.specs.declared.row_values.PictureHead.{PictureHead}
+use Rattle.cue_records.specs.declared.row_values.PictureHead.{PictureHead}
 
 -- the depth and the sides of the picture of a text
 unfoldable pub text_head : FontValue → Depth → List ℕ → PictureHead

@@ -1,14 +1,14 @@
 -- Rows beside a script's own: `tick`, T; and the first tick that a row has a part in.
 use Rattle.std.specs.Prelude.{ℕ, ◌==◌, nat_le, not, Bool, false, List, [], ◌∷◌, length, Option, Some, None, option_map, codes}
 use Rattle.std.specs.Str.{bytes_eq}
-use Rattle.cue_list.specs.declared.fault.ScriptKind.{ScriptKind}
-use Rattle.cue_list.specs.declared.fault.ScriptKind.TheVariants as faults
-use Rattle.cue_list.specs.declared.row_kind.RowKind.{RowKind}
-use Rattle.cue_list.specs.declared.row_kind.RowKind.TheVariants as kinds
-use Rattle.cue_list.specs.CellFaults.{first_of, fails, value_at, tick_fault, is_text_row}
-use Rattle.cue_list.specs.Cells.{cell_at}
+use Rattle.cue_records.specs.declared.fault.ScriptKind.{ScriptKind}
+use Rattle.cue_records.specs.declared.fault.ScriptKind.TheVariants as faults
+use Rattle.cue_records.specs.declared.row_kind.RowKind.{RowKind}
+use Rattle.cue_records.specs.declared.row_kind.RowKind.TheVariants as kinds
+use Rattle.cue_records.specs.CellFaults.{first_of, fails, value_at, tick_fault, is_text_row}
+use Rattle.cue_records.specs.Cells.{cell_at}
 use Rattle.cue_list.specs.Past.{ScriptPast}
-use Rattle.cue_list.specs.Rows.{Row}
+use Rattle.cue_records.specs.Rows.{Row}
 
 -- a row is a tick row by its first cell
 abbrev pub is_tick_row : Row → Bool

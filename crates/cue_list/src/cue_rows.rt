@@ -1,28 +1,27 @@
-ghost use Rattle.cue_list.specs.declared.limits.TheConstants.{MOST_CODES, MOST_CUES, MOST_HEIGHT, MOST_WIDTH};
+ghost use Rattle.cue_records.specs.declared.limits.TheConstants.{MOST_CODES, MOST_CUES, MOST_HEIGHT, MOST_WIDTH};
 ghost use Rattle.std.specs.Prelude.{◌≡◌, ◌≤◌, ◌<◌, ◌+◌, ◌^◌, ◌∷◌, [], ◌++◌, true, false, None, Some, chars, length, map, option_map, IfNone, IfSome, OnOk, OnErr, IfOk, IfErr};
 ghost use Rattle.csv.specs.Records.{fields_of};
-ghost use Rattle.cue_list.specs.CellFaults.{first_of, is_text_row, value_at, place_cells as place_cells_of, cue_cells as cue_cells_of};
-ghost use Rattle.cue_list.specs.Cells.{cell_at};
-ghost use Rattle.cue_list.specs.Past.{area as area_of_head, region_with as region_with_of, is_close};
+ghost use Rattle.cue_records.specs.CellFaults.{first_of, is_text_row, value_at, place_cells as place_cells_of, cue_cells as cue_cells_of, IsRowFault};
+ghost use Rattle.cue_records.specs.Cells.{cell_at};
+ghost use Rattle.cue_records.specs.RowValues.{area as area_of_head, placing_in};
+ghost use Rattle.cue_list.specs.Past.{region_with as region_with_of, is_close};
 ghost use Rattle.cue_list.specs.RowFaults.{place_fault as place_fault_of, placed_fault as placed_fault_of, head_at as head_at_of, cue_fault as cue_fault_of, text_fault as text_fault_of, regions_of};
-ghost use Rattle.cue_list.specs.RowValues.{placing_in};
-ghost use Rattle.cue_list.specs.Private.State.{IsReader, past_of, head_of as head_of_picture, IsTaken, IsRowFault, place_next, cue_next};
+ghost use Rattle.cue_list.specs.Private.State.{IsReader, past_of, head_of as head_of_picture, IsTaken, place_next, cue_next};
 ghost use Rattle.cue_list.specs.Setting.{IsTextPicture, IsTextOf};
 ghost use Rattle.cue_list.specs.TextSizes.{text_head};
 ghost use Rattle.cue_list.specs.Private.Ticks.{near_by};
 
-use crate::epoch::{Cue, Region};
-use crate::fault::ScriptKind;
+use crate::epoch::Cue;
 use crate::reader::Reader;
-use crate::row_cells::{CueCells, cue_cells, place_cells};
-use crate::row_fault::RowFault;
 use crate::row_steps::add_cue;
-use crate::row_tests::{area, region_with};
-use crate::row_values::{PictureHead, PlaceRow};
+use crate::row_tests::region_with;
 use crate::setting::head_of;
-use crate::texts::text_cell;
 use bitmap_font::Font;
 use csv::ByteRecord;
+use cue_records::{
+    CueCells, PictureHead, PlaceRow, Region, RowFault, ScriptKind, area, cue_cells, place_cells,
+    text_cell,
+};
 use indexed_picture::Indexed;
 
 impl Reader {
@@ -70,7 +69,7 @@ impl Reader {
     }
 
     /// Takes a picture that is placed.
-    #[tactic(auto, unfolding(crate::specs::RowFaults::place_fault, crate::specs::RowValues::placing_in))]
+    #[tactic(auto, unfolding(crate::specs::RowFaults::place_fault, cue_records::specs::RowValues::placing_in))]
     pub(crate) fn take_place(&mut self, number: u64, row: &ByteRecord) -> Result<(), RowFault>
         requires reader { IsReader self.old }
         requires text { is_text_row (fields_of row.now) ≡ true }
@@ -177,7 +176,7 @@ impl Reader {
     }
 
     /// Takes a text that is shown.
-    #[tactic(auto, unfolding(crate::specs::RowValues::placing_in))]
+    #[tactic(auto, unfolding(cue_records::specs::RowValues::placing_in))]
     pub(crate) fn take_cue(
         &mut self,
         font: &Font,

@@ -4,7 +4,7 @@ ghost use Rattle.cue_list.specs.Past.{with_last};
 ghost use Rattle.cue_list.specs.Private.State.{IsReader};
 ghost use Rattle.cue_list.specs.Private.Taken.{kept_of};
 ghost use Rattle.cue_list.specs.SeenReaders.{lent_seen, script_in, seen_of};
-ghost use Rattle.cue_list.specs.Rows.{Row};
+ghost use Rattle.cue_records.specs.Rows.{Row};
 ghost use Rattle.cue_list.specs.TakenRows.{IsScriptOf, StandsFor, numbered};
 
 use crate::copies::{epoch_copy, epochs_copy};

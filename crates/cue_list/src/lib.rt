@@ -6,25 +6,10 @@
 //! `picture_at` draws what a script shows at a tick.
 #![tactic(auto)]
 
-// A script's values, and its limits.
+// A script's values, and why it is refused.
 mod epoch;
-mod limits;
-mod script;
-
-// Why a script is refused.
 mod fault;
-mod row_fault;
-
-// Records out of text: their cells, codes and values.
-mod cells;
-mod codes;
-mod hex;
-mod row_cells;
-mod row_kind;
-mod row_values;
-mod rows;
-mod runs;
-mod texts;
+mod script;
 
 // What is kept of the records so far.
 mod copies;
@@ -51,14 +36,14 @@ mod tick_rows;
 mod painting;
 mod read;
 
-pub use epoch::{ColourRow, Cue, Epoch, Region};
-pub use fault::{ScriptFault, ScriptKind};
-pub use kept_rows::{LentScript, RowBefore, ScriptReader};
-pub use limits::{
-    CLOSE_TICKS, LATEST_ORIGIN, LONGEST_CUE, LONGEST_NAME, LONGEST_RUN, LONGEST_SCRIPT, MOST_CODES,
-    MOST_COLOURS, MOST_CUES, MOST_DIGITS, MOST_EPOCHS, MOST_HEIGHT, MOST_PICTURES, MOST_REGIONS,
-    MOST_WIDTH,
+pub use cue_records::{
+    CLOSE_TICKS, ColourRow, LATEST_ORIGIN, LONGEST_CUE, LONGEST_NAME, LONGEST_RUN, LONGEST_SCRIPT,
+    MOST_CODES, MOST_COLOURS, MOST_CUES, MOST_DIGITS, MOST_EPOCHS, MOST_HEIGHT, MOST_PICTURES,
+    MOST_REGIONS, MOST_WIDTH, Region, ScriptKind,
 };
+pub use epoch::{Cue, Epoch};
+pub use fault::ScriptFault;
+pub use kept_rows::{LentScript, RowBefore, ScriptReader};
 pub use painting::picture_at;
 pub use script::{Pictures, Script};
 pub use script_reader::RecordFault;

@@ -1,8 +1,8 @@
 ghost use Rattle.std.specs.Prelude.{◌≡◌, ℕ, List, None, OnOk, IfErr, IfOk};
-ghost use Rattle.cue_list.specs.Private.State.{IsRowFault};
+ghost use Rattle.cue_records.specs.CellFaults.{IsRowFault};
 ghost use Rattle.cue_list.specs.Private.Names.{place_by, named_with};
 
-use crate::row_fault::RowFault;
+use cue_records::RowFault;
 use std::alloc::Global;
 use std::collections::BTreeMap;
 use sub_base::NoMemory;

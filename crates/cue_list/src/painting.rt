@@ -5,8 +5,9 @@ ghost use Rattle.cue_list.specs.Authored.{authored_picture, picture_at_place, ep
 ghost use Rattle.sub_base.specs.declared.colour.Colour.{Colour};
 ghost use Rattle.cue_list.specs.Planes.{IsBlank, HasLive, SetsRow, SetsAll, FitsIn, PaintsRows, FillsRows, PaintsRegion, AreEntriesBy, AreCuesOf, ArePaintable, ShowsRegions, HasDefaults, colour_of, sets_clut as sets_clut_by};
 
-use crate::epoch::{ColourRow, Cue, Epoch, Region};
+use crate::epoch::{Cue, Epoch};
 use crate::script::Script;
+use cue_records::{ColourRow, Region};
 use indexed_picture::Indexed;
 use sub_base::{CLEAR, Colour, Depth, default_colour};
 

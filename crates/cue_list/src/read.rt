@@ -1,23 +1,21 @@
 ghost use Rattle.std.specs.Prelude.{◌≡◌, ◌≢◌, ◌+◌, ◌<◌, ◌^◌, ℕ, List, [], true, length, is_some, IfOk, IfErr, MatchResult};
 ghost use Rattle.cue_list.specs.Private.HasRead.{HasRead};
-ghost use Rattle.cue_list.specs.Records.{records_of};
-ghost use Rattle.cue_list.specs.ScriptRows.{AnswersScriptFault, IsScriptFault};
+ghost use Rattle.cue_records.specs.Records.{records_of};
+ghost use Rattle.cue_list.specs.ScriptRows.{AnswersScriptFault, IsScriptFault, HasValues, IsScript};
 ghost use Rattle.sub_base.specs.Picture.{Picture};
 ghost use Rattle.std.specs.Prelude.{Err, None};
-ghost use Rattle.cue_list.specs.declared.fault.ScriptKind.TheVariants.{Order};
+ghost use Rattle.cue_records.specs.declared.fault.ScriptKind.TheVariants.{Order};
 ghost use Rattle.cue_list.specs.declared.fault.ScriptFault.TheVariants.{Memory, Refused};
 ghost use Rattle.cue_list.specs.Past.{with_last};
-ghost use Rattle.cue_list.specs.ScriptRows.{HasValues, IsScript};
 ghost use Rattle.cue_list.specs.Sound.{IsSoundScript};
 
 use crate::epoch::Epoch;
-use crate::fault::{ScriptFault, ScriptKind};
+use crate::fault::ScriptFault;
 use crate::reader::Reader;
-use crate::row_fault::RowFault;
-use crate::rows::{next_row, reader_of};
 use crate::script::{Pictures, Script};
 use bitmap_font::Font;
 use csv::ByteRecord;
+use cue_records::{RowFault, ScriptKind, next_row, reader_of};
 use std::alloc::Global;
 use sub_base::{Items, NoMemory, SECOND};
 

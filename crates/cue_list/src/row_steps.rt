@@ -1,19 +1,19 @@
-ghost use Rattle.cue_list.specs.declared.limits.TheConstants.{MOST_COLOURS};
+ghost use Rattle.cue_records.specs.declared.limits.TheConstants.{MOST_COLOURS};
 ghost use Rattle.std.specs.Prelude.{◌≡◌, ◌∷◌, [], ◌<◌, ◌^◌, None, OnOk, IfErr, option_map};
 ghost use Rattle.csv.specs.Records.{fields_of};
-ghost use Rattle.cue_list.specs.CellFaults.{first_of, value_at, origin_cells as origin_cells_of, display_cells as display_cells_of, refresh_cells as refresh_cells_of, epoch_cells as epoch_cells_of, region_cells as region_cells_of, colour_cells as colour_cells_of};
+ghost use Rattle.cue_records.specs.CellFaults.{first_of, value_at, origin_cells as origin_cells_of, display_cells as display_cells_of, refresh_cells as refresh_cells_of, epoch_cells as epoch_cells_of, region_cells as region_cells_of, colour_cells as colour_cells_of, IsRowFault};
 ghost use Rattle.cue_list.specs.RowFaults.{epoch_fault as epoch_fault_of, region_fault as region_fault_of, colour_fault as colour_fault_of};
-ghost use Rattle.cue_list.specs.RowValues.{region_in, colour_in};
-ghost use Rattle.cue_list.specs.Private.State.{IsReader, past_of, IsTaken, IsRowFault, origin_next, display_next, refresh_next, epoch_next, region_next, colour_next, with_region, with_colour, with_cue};
+ghost use Rattle.cue_records.specs.RowValues.{region_in, colour_in};
+ghost use Rattle.cue_list.specs.Private.State.{IsReader, past_of, IsTaken, origin_next, display_next, refresh_next, epoch_next, region_next, colour_next, with_region, with_colour, with_cue};
 ghost use Rattle.std.specs.Prelude.{Some};
 
-use crate::epoch::{ColourRow, Cue, Epoch, Region};
+use crate::epoch::{Cue, Epoch};
 use crate::reader::Reader;
-use crate::row_cells::{
-    colour_cells, display_cells, epoch_cells, origin_cells, refresh_cells, region_cells,
-};
-use crate::row_fault::RowFault;
 use csv::ByteRecord;
+use cue_records::{
+    ColourRow, Region, RowFault, colour_cells, display_cells, epoch_cells, origin_cells,
+    refresh_cells, region_cells,
+};
 use std::alloc::Global;
 use sub_base::Items;
 
@@ -123,7 +123,7 @@ impl Reader {
     }
 
     /// Takes a colour of the last epoch.
-    #[tactic(auto, unfolding(crate::specs::RowValues::colour_in))]
+    #[tactic(auto, unfolding(cue_records::specs::RowValues::colour_in))]
     pub(crate) fn take_colour(&mut self, number: u64, row: &ByteRecord) -> Result<(), RowFault>
         requires reader { IsReader self.old }
         requires few { self.old.colours < MOST_COLOURS }

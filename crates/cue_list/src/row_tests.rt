@@ -1,20 +1,19 @@
 ghost use Rattle.std.specs.Prelude.{◌≡◌, ◌<◌, ◌≤◌, ◌^◌, ◌+◌, length, false, IfNone};
 ghost use Rattle.std.specs.List.{list_any};
-ghost use Rattle.cue_list.specs.Past.{region_with as region_with_of, area as area_of_head, is_close as is_close_of};
-ghost use Rattle.cue_list.specs.RowFaults.{is_misplaced as is_misplaced_of, is_full as is_full_of, is_used as is_used_of, epoch_count, regions_of, starts_before, lasts_past, is_early as is_early_of, share_row, are_too_many as are_too_many_of, epoch_fault as epoch_fault_of, region_fault as region_fault_of, colour_fault as colour_fault_of, span_fault as span_fault_of, placed_fault as placed_fault_of};
+ghost use Rattle.cue_list.specs.Past.{region_with as region_with_of, is_close as is_close_of};
+ghost use Rattle.cue_list.specs.RowFaults.{is_misplaced as is_misplaced_of, is_full as is_full_of, is_used as is_used_of, epoch_count, regions_of, starts_before, lasts_past, is_early as is_early_of, are_too_many as are_too_many_of, epoch_fault as epoch_fault_of, region_fault as region_fault_of, colour_fault as colour_fault_of, span_fault as span_fault_of, placed_fault as placed_fault_of};
+ghost use Rattle.cue_records.specs.Regions.{share_row};
 ghost use Rattle.cue_list.specs.Private.State.{IsReader, past_of};
 ghost use Rattle.cue_list.specs.Private.Ticks.{near_by};
 ghost use Rattle.std.specs.Prelude.{nat_lt, nat_le};
 
-use crate::epoch::{ColourRow, Cue, Region};
-use crate::fault::ScriptKind;
-use crate::limits::{
-    LONGEST_CUE, MOST_CODES, MOST_COLOURS, MOST_CUES, MOST_EPOCHS, MOST_PICTURES, MOST_REGIONS,
-};
+use crate::epoch::Cue;
 use crate::reader::Reader;
-use crate::row_kind::RowKind;
-use crate::row_values::{PictureHead, PlaceRow};
 use crate::ticks::is_close;
+use cue_records::{
+    ColourRow, LONGEST_CUE, MOST_CODES, MOST_COLOURS, MOST_CUES, MOST_EPOCHS, MOST_PICTURES,
+    MOST_REGIONS, PictureHead, PlaceRow, Region, RowKind, ScriptKind, area,
+};
 
 impl Reader {
     /// Whether a record of that kind may not stand here.
@@ -196,14 +195,6 @@ impl Reader {
         }
         None
     }
-}
-
-/// How many codes a picture of these sides has.
-pub(crate) fn area(head: PictureHead) -> u64
-    ensures value { result ≡ area_of_head head }
-    ensures most { result < 2 ^ 32 }
-{
-    u64::from(head.width) * u64::from(head.height)
 }
 
 fn any_ends_after(cues: &[Cue], tick: u64) -> bool

@@ -1,21 +1,18 @@
 ghost use Rattle.std.specs.Prelude.{◌≡◌, ◌<◌, ◌^◌, ◌==◌, List, [], is_some, option_map, IfErr, IfOk, OnErr};
 ghost use Rattle.csv.specs.Records.{fields_of};
 ghost use Rattle.bitmap_font.specs.Font.{FontValue};
-ghost use Rattle.cue_list.specs.CellFaults.{fault_in, tick_fault, value_at};
-ghost use Rattle.cue_list.specs.Cells.{cell_at};
-ghost use Rattle.cue_list.specs.Rows.{Row};
+ghost use Rattle.cue_records.specs.CellFaults.{fault_in, tick_fault, value_at};
+ghost use Rattle.cue_records.specs.Cells.{cell_at};
+ghost use Rattle.cue_records.specs.Rows.{Row};
 ghost use Rattle.cue_list.specs.TakenRows.{CanGoBack, IsRecordFault, StandsFor, TakesRow, next_fault};
 ghost use Rattle.cue_list.specs.Private.Taken.{told_fault};
 ghost use Rattle.cue_list.specs.SeenReaders.{mark_of, seen_of};
 
-use crate::cells::cell;
-use crate::fault::ScriptKind;
 use crate::kept_rows::{RowBefore, ScriptReader};
 use crate::reader::Reader;
-use crate::row_cells::tick_cell;
-use crate::row_fault::RowFault;
 use bitmap_font::Font;
 use csv::ByteRecord;
+use cue_records::{RowFault, ScriptKind, cell, tick_cell};
 use std::alloc::Global;
 use std::mem;
 use sub_base::NoMemory;

@@ -2,20 +2,16 @@ ghost use Rattle.std.specs.Prelude.{◌≡◌, ◌≤◌, ◌<◌, ◌∷◌, []
 ghost use Rattle.bitmap_font.specs.Setting.{IsSetting};
 ghost use Rattle.sub_base.specs.Depth.{code_count};
 ghost use Rattle.sub_base.specs.Picture.{IsPicture};
-ghost use Rattle.cue_list.specs.declared.limits.TheConstants.{MOST_HEIGHT, MOST_WIDTH};
+ghost use Rattle.cue_records.specs.declared.limits.TheConstants.{MOST_HEIGHT, MOST_WIDTH};
 ghost use Rattle.cue_list.specs.RowFaults.{text_fault, glyph_fault};
-ghost use Rattle.cue_list.specs.CellFaults.{first_of};
-ghost use Rattle.cue_list.specs.Private.State.{past_of, head_of as head_of_picture, IsRowFault};
+ghost use Rattle.cue_records.specs.CellFaults.{first_of, IsRowFault};
+ghost use Rattle.cue_list.specs.Private.State.{past_of, head_of as head_of_picture};
 ghost use Rattle.cue_list.specs.TextSizes.{text_head, missing_glyph};
 ghost use Rattle.cue_list.specs.Setting.{row_fault_of as row_fault_of_set};
 
-use crate::epoch::Region;
-use crate::fault::ScriptKind;
 use crate::reader::Reader;
-use crate::row_cells::CueCells;
-use crate::row_fault::RowFault;
-use crate::row_values::PictureHead;
 use bitmap_font::{Font, SetFault};
+use cue_records::{CueCells, PictureHead, Region, RowFault, ScriptKind};
 use indexed_picture::Indexed;
 
 /// The depth and the sides of a picture.

@@ -1,10 +1,10 @@
 ghost use Rattle.std.specs.Prelude.{◌≡◌, ◌<◌, ◌^◌, ◌∷◌, [], length, IfOk};
 ghost use Rattle.csv.specs.Records.{fields_of};
 ghost use Rattle.cue_list.specs.OnlyRow.{IsOnlyRow};
-ghost use Rattle.cue_list.specs.Rows.{IsReadable, rows_left, unread};
+ghost use Rattle.cue_records.specs.Rows.{IsReadable, rows_left, unread};
 
-use crate::rows::{next_row, reader_of};
 use csv::{ByteRecord, Reader};
+use cue_records::{next_row, reader_of};
 use std::alloc::Global;
 use sub_base::NoMemory;
 

@@ -1,20 +1,16 @@
 ghost use Rattle.std.specs.Prelude.{◌≡◌, ◌+◌, ◌<◌, ◌^◌, true, false, None, OnOk, OnErr, IfErr, IfNone};
 ghost use Rattle.csv.specs.Records.{fields_of};
-ghost use Rattle.cue_list.specs.CellFaults.{is_text_row as is_text_row_of};
+ghost use Rattle.cue_records.specs.CellFaults.{is_text_row as is_text_row_of, IsRowFault};
 ghost use Rattle.cue_list.specs.Drawn.{Brings};
-ghost use Rattle.cue_list.specs.Records.{record_of, kind_of};
+ghost use Rattle.cue_records.specs.Records.{record_of, kind_of};
 ghost use Rattle.cue_list.specs.RowFaults.{shape_fault as shape_fault_of, fault_with, is_full as is_full_of, regions_of};
-ghost use Rattle.cue_list.specs.Private.State.{IsReader, past_of, IsTaken, IsRowFault, content_fault, next_by, next_with};
-ghost use Rattle.cue_list.specs.Cells.{cell_at};
+ghost use Rattle.cue_list.specs.Private.State.{IsReader, past_of, IsTaken, content_fault, next_by, next_with};
+ghost use Rattle.cue_records.specs.Cells.{cell_at};
 
-use crate::cells::cell;
-use crate::fault::ScriptKind;
 use crate::reader::Reader;
-use crate::row_fault::RowFault;
-use crate::row_kind::RowKind;
-use crate::texts::is_text_row;
 use bitmap_font::Font;
 use csv::ByteRecord;
+use cue_records::{RowFault, RowKind, ScriptKind, cell, is_text_row};
 use std::alloc::Global;
 
 impl Reader {

@@ -1,22 +1,17 @@
 ghost use Rattle.std.specs.Prelude.{◌≡◌, ◌<◌, ◌^◌, ℕ, None, IfOk};
 ghost use Rattle.csv.specs.Records.{fields_of};
-ghost use Rattle.cue_list.specs.CellFaults.{fault_in, value_at};
-ghost use Rattle.cue_list.specs.Cells.{cell_at};
+ghost use Rattle.cue_records.specs.CellFaults.{fault_in, value_at};
+ghost use Rattle.cue_records.specs.Cells.{cell_at};
 ghost use Rattle.bitmap_font.specs.Font.{FontValue};
 ghost use Rattle.cue_list.specs.Private.FirstTicks.{tick_in as tick_in_of, tick_read as tick_read_of};
-ghost use Rattle.cue_list.specs.Records.{kind_of, record_of};
+ghost use Rattle.cue_records.specs.Records.{kind_of, record_of};
 ghost use Rattle.cue_list.specs.RowFaults.{fault_with};
 ghost use Rattle.cue_list.specs.SeenReaders.{seen_of};
 ghost use Rattle.cue_list.specs.TickRows.{first_tick as first_tick_of, is_not_above as is_not_above_of, is_tick_row as is_tick_row_of, tick_row_fault};
 
-use crate::cells::{cell, is_text};
-use crate::fault::ScriptKind;
 use crate::kept_rows::ScriptReader;
-use crate::limits::MOST_DIGITS;
-use crate::row_cells::tick_cell;
-use crate::row_kind::RowKind;
-use crate::texts::is_text_row;
 use csv::ByteRecord;
+use cue_records::{MOST_DIGITS, RowKind, ScriptKind, cell, is_text, is_text_row, tick_cell};
 use sub_base::decimal_number;
 
 /// Whether a record is a tick, which is none of a script's own.

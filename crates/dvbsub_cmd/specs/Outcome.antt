@@ -21,8 +21,8 @@ use Rattle.dvbsub_cmd.specs.declared.status.Status.{Status}
 use Rattle.dvbsub_cmd.specs.declared.status.Status.TheVariants as status
 use Rattle.sub_base.specs.declared.status.Which.TheVariants as which
 
--- the cause of a status by the command, and what the output has received then: a wrong command line ends with the
--- usage, and nothing else does; it calls no source, and nor does `gen`
+-- the cause of a status by the command, and what the output has received then: words that are no command end with the
+-- usage, and no command does; neither these words nor `gen` call a source
 abbrev pub IsCausedBy : List (List ℕ) → Option Command → Seen → Seen → Status → Type 0
 IsCausedBy words None before now answer =
     (answer ≡ status.Usage) × (now.first ≡ before.first) × WroteNothing before.out now.out

@@ -16,7 +16,7 @@ use Rattle.dvbsub_words.specs.declared.command.Command.{Command}
 use Rattle.dvbsub_words.specs.declared.command.Command.TheVariants as command
 use Rattle.command_words.specs.declared.place.InputPlaces.{InputPlaces}
 use Rattle.stream_syntax.specs.declared.wire.TheConstants.{TIME_ROUND, NULL_PID}
-use Rattle.cue_list.specs.declared.limits.TheConstants.{LATEST_ORIGIN}
+use Rattle.cue_records.specs.declared.limits.TheConstants.{LATEST_ORIGIN}
 
 -- `compile PROFILE PID PAGE SCRIPT FONT OUT`
 abbrev pub compile_of : List (List ℕ) → Option Command

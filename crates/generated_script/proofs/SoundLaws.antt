@@ -6,10 +6,10 @@ use Rattle.std.proofs.lemmas.List.FromFn.{length-map-range_with_len, get_or-map-
 use Rattle.std.proofs.lemmas.List.Sums.{sum_by-le}
 use Rattle.sub_base.specs.declared.depth.Depth.TheVariants.{Four}
 use Rattle.sub_base.specs.Picture.{Picture, IsPicture}
-use Rattle.cue_list.specs.declared.epoch.ColourRow.{ColourRow}
+use Rattle.cue_records.specs.declared.row_values.ColourRow.{ColourRow}
 use Rattle.cue_list.specs.declared.epoch.Cue.{Cue}
 use Rattle.cue_list.specs.declared.epoch.Epoch.{Epoch}
-use Rattle.cue_list.specs.declared.epoch.Region.{Region}
+use Rattle.cue_records.specs.declared.region.Region.{Region}
 use Rattle.cue_list.specs.Authored.{picture_at_place}
 use Rattle.cue_list.specs.Sound.{IsRegion, AreSeparate, AreRegions, IsColourRow, FitsRegion, IsCue, IsEpoch, Follows, IsSoundScript}
 use Rattle.generated_script.specs.Generated.{generated_picture, generated_start, generated_length, generated_region, IsGeneratedEpoch}

@@ -5,7 +5,7 @@ use Rattle.sub_base.specs.Picture.{Picture}
 use Rattle.sub_base.specs.declared.depth.Depth.TheVariants.{Four}
 use Rattle.cue_list.specs.declared.epoch.Cue.{Cue}
 use Rattle.cue_list.specs.declared.epoch.Epoch.{Epoch}
-use Rattle.cue_list.specs.declared.epoch.Region.{Region}
+use Rattle.cue_records.specs.declared.region.Region.{Region}
 use Rattle.cue_list.specs.declared.script.Script.{Script}
 
 -- a row of the picture of cue k: eight runs of eight pixels, whose codes go on by one from run to run

@@ -6,9 +6,9 @@ use Rattle.sub_base.specs.declared.profile.ProfileName.{ProfileName}
 use Rattle.sub_base.specs.declared.profile.ProfileName.TheVariants.{Sd, Hd}
 use Rattle.sub_base.specs.Profile.{profile_of, IsProfile}
 use Rattle.sub_base.proofs.ProfileLaws.{every_profile}
-use Rattle.cue_list.specs.declared.epoch.ColourRow.{ColourRow}
+use Rattle.cue_records.specs.declared.row_values.ColourRow.{ColourRow}
 use Rattle.cue_list.specs.declared.epoch.Epoch.{Epoch}
-use Rattle.cue_list.specs.declared.epoch.Region.{Region}
+use Rattle.cue_records.specs.declared.region.Region.{Region}
 use Rattle.cue_list.specs.declared.script.Script.{Script}
 use Rattle.generated_script.specs.Generated.{IsGenerated, IsGeneratedEpoch}
 use Rattle.page_epoch.specs.declared.fault.PlanFault.{PlanFault}

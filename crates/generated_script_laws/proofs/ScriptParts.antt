@@ -8,7 +8,7 @@ use Rattle.sub_base.specs.declared.depth.Depth.TheVariants.{Two, Four}
 use Rattle.cue_list.specs.Authored.{picture_at_place}
 use Rattle.cue_list.specs.declared.epoch.Cue.{Cue}
 use Rattle.cue_list.specs.declared.epoch.Epoch.{Epoch}
-use Rattle.cue_list.specs.declared.epoch.Region.{Region}
+use Rattle.cue_records.specs.declared.region.Region.{Region}
 use Rattle.cue_list.specs.declared.script.Script.{Script}
 use Rattle.page_epoch.specs.Live.{cue_at, no_cue}
 use Rattle.set_coder.specs.SetSegments.{region_or_none, epoch_region, picture_of_cue, depth_of_cue}

@@ -5,18 +5,18 @@ use Rattle.std.proofs.lemmas.Bool.Decides.{nat_tests}
 use Rattle.std.proofs.lemmas.List.{length-take, take_all}
 use Rattle.sub_base.specs.Pace.{pace_of}
 use Rattle.sub_base.specs.Profile.{profile_of}
-use Rattle.cue_list.specs.Cells.{cell_at}
+use Rattle.cue_records.specs.Cells.{cell_at}
 use Rattle.cue_list.specs.Past.{epoch_of, last_epoch, looking_back}
-use Rattle.cue_list.specs.Records.{Record, is, kind_of}
+use Rattle.cue_records.specs.Records.{Record, is, kind_of}
 use Rattle.cue_list.specs.RowFaults.{is_misplaced}
-use Rattle.cue_list.specs.Rows.{Row}
+use Rattle.cue_records.specs.Rows.{Row}
 use Rattle.cue_list.specs.TickRows.{first_tick, is_not_above}
 use Rattle.cue_list.specs.declared.epoch.Epoch.{Epoch}
-use Rattle.cue_list.specs.declared.row_kind.RowKind.{RowKind}
-use Rattle.cue_list.specs.declared.row_kind.RowKind.TheVariants as kinds
+use Rattle.cue_records.specs.declared.row_kind.RowKind.{RowKind}
+use Rattle.cue_records.specs.declared.row_kind.RowKind.TheVariants as kinds
 use Rattle.cue_list.specs.declared.script.Script.{Script}
-use Rattle.cue_list.proofs.FactLaws.{IsRightRow-from}
-use Rattle.page_epoch.specs.Growth.{Grows}
+use Rattle.cue_list.proofs.FactLaws.{IsValidRow-from}
+use Rattle.grown_script_laws.specs.Growth.{Grows}
 use Rattle.shown_stream.specs.Compiled.{IsCompiledTo}
 use Rattle.live_plan.specs.LetIn.{IsScriptBehind, LetIn}
 use Rattle.live_plan.specs.LiveRows.{AHEAD, Inserter, IsBatchOf, RowOrTick, row, tick, due_front, has_epoch, last_tick, nearest_in, next_record, records_in, rows_in, slots_by, compiling_by}
@@ -80,7 +80,7 @@ rows_grow inserter past cells time old new last let_in was now =
     let begun = some_found (find (is kinds.Epoch) earlier) (epoch_of font earlier) lists.some_epoch in
     let many : 4 ≤ length earlier =
     omega (arith, late_epoch inserter past let_in.1 begun, length-nearest past) in
-    let placed = (IsRightRow-from font (looking_back font earlier) kind (length (rows_in past) + 1) cells
+    let placed = (IsValidRow-from font (looking_back font earlier) kind (length (rows_in past) + 1) cells
     (row_right inserter past cells is_in)).placed in
     let late : IsLate (time + AHEAD) (start_of kind cells (last_epoch font earlier)) =
     λ first there. row_late inserter past cells time first is_in last

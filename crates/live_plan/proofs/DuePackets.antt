@@ -12,10 +12,10 @@ use Rattle.sub_base.specs.declared.load.WriteLoad.{WriteLoad}
 use Rattle.sub_base.specs.declared.pace.Pace.{Pace}
 use Rattle.sub_base.specs.declared.profile.ProfileName.{ProfileName}
 use Rattle.cue_list.specs.declared.script.Script.{Script}
-use Rattle.page_epoch.specs.Growth.{Grows}
+use Rattle.grown_script_laws.specs.Growth.{Grows}
 use Rattle.page_epoch.specs.declared.instants.TheConstants.{REFRESH_ROOM}
 use Rattle.page_epoch.specs.declared.planned_set.PlannedSet.{PlannedSet}
-use Rattle.page_epoch.proofs.GrownPlans.{HasGrown, sets_have_grown, sets_stay}
+use Rattle.grown_script_laws.proofs.GrownPlans.{HasGrown, sets_have_grown, sets_stay}
 use Rattle.schedule.specs.Packets.{first_packet}
 use Rattle.schedule.specs.Slots.{IsLoad, IsSchedule, Timetable}
 use Rattle.schedule.specs.declared.limits.TheConstants.{SEND_WINDOW}
@@ -23,7 +23,7 @@ use Rattle.schedule.proofs.FrontLaws.{slots_stay}
 use Rattle.sent_sets.proofs.PacketCounts.{count_pieces}
 use Rattle.set_coder.specs.SetSegments.{AreSetPackets}
 use Rattle.set_coder.specs.SetSizes.{IsSetLoad}
-use Rattle.set_coder.proofs.GrownPackets.{load_stays, packets_stay}
+use Rattle.grown_script_laws.proofs.GrownPackets.{load_stays, packets_stay}
 use Rattle.set_coder.proofs.OnePackets.{one_packets}
 use Rattle.set_coder.proofs.SetSizeLaws.{one_load}
 use Rattle.shown_stream.specs.Compiled.{Compiling, IsCompiledTo, compiling_for, sent_pace}

@@ -5,22 +5,22 @@ use Rattle.std.proofs.lemmas.List.{append-nil, get_or-append-add}
 use Rattle.bitmap_font.specs.Font.{FontValue}
 use Rattle.sub_base.specs.Picture.{Picture}
 use Rattle.sub_base.specs.declared.pace.TheConstants.{SECOND}
-use Rattle.cue_list.specs.CellFaults.{value_at}
-use Rattle.cue_list.specs.Cells.{cell_at}
+use Rattle.cue_records.specs.CellFaults.{value_at}
+use Rattle.cue_records.specs.Cells.{cell_at}
 use Rattle.cue_list.specs.Drawn.{Brings}
 use Rattle.cue_list.specs.Past.{colours_in, cue_by, cue_with, cues_in, ended_epochs, epoch_of, heads_in, last_epoch, number_in, place_named, regions_in, with_last}
-use Rattle.cue_list.specs.Records.{Record, is}
-use Rattle.cue_list.specs.RowValues.{colour_in, placing_in, region_in}
-use Rattle.cue_list.specs.Rows.{Row}
+use Rattle.cue_records.specs.Records.{Record, is}
+use Rattle.cue_records.specs.RowValues.{colour_in, placing_in, region_in}
+use Rattle.cue_records.specs.Rows.{Row}
 use Rattle.cue_list.specs.ScriptRows.{AreDrawn, Lists}
 use Rattle.cue_list.specs.Sound.{ticks_of, ticks_of_cue}
 use Rattle.cue_list.specs.declared.epoch.Cue.{Cue}
 use Rattle.cue_list.specs.declared.epoch.Epoch.{Epoch}
-use Rattle.cue_list.specs.declared.row_kind.RowKind.{RowKind}
-use Rattle.cue_list.specs.declared.row_kind.RowKind.TheVariants as kinds
+use Rattle.cue_records.specs.declared.row_kind.RowKind.{RowKind}
+use Rattle.cue_records.specs.declared.row_kind.RowKind.TheVariants as kinds
 use Rattle.cue_list.specs.declared.script.Script.{Script}
 use Rattle.cue_list.proofs.OneScript.{one_drawn}
-use Rattle.page_epoch.specs.Growth.{AreAbove, EpochGrows, EpochsGrow, Grows}
+use Rattle.grown_script_laws.specs.Growth.{AreAbove, EpochGrows, EpochsGrow, Grows}
 use Rattle.page_epoch.proofs.ListLaws.{All-none, All-one}
 use Rattle.page_epoch.proofs.SoundLaws.{plain}
 

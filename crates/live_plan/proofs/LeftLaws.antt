@@ -7,15 +7,15 @@ use Rattle.sub_base.specs.Picture.{Picture}
 use Rattle.sub_base.specs.declared.profile.ProfileName.{ProfileName}
 use Rattle.bitmap_font.specs.Font.{FontValue}
 use Rattle.cue_list.specs.Past.{ScriptPast, epoch_of}
-use Rattle.cue_list.specs.Cells.{cell_at}
-use Rattle.cue_list.specs.Records.{Record, is, kind_of, record_of}
+use Rattle.cue_records.specs.Cells.{cell_at}
+use Rattle.cue_records.specs.Records.{Record, is, kind_of, record_of}
 use Rattle.cue_list.specs.RowFaults.{fault_with}
-use Rattle.cue_list.specs.Rows.{Row}
+use Rattle.cue_records.specs.Rows.{Row}
 use Rattle.cue_list.specs.SeenReaders.{seen_of}
 use Rattle.cue_list.specs.TakenRows.{CanGoBack, IsRecordFault, IsScriptOf, Kept, Mark, StandsFor, TakesRow, nearest, next_fault}
 use Rattle.cue_list.specs.TickRows.{first_tick}
 use Rattle.cue_list.specs.declared.kept_rows.ScriptReader.{ScriptReader}
-use Rattle.cue_list.specs.declared.row_kind.RowKind.TheVariants as kinds
+use Rattle.cue_records.specs.declared.row_kind.RowKind.TheVariants as kinds
 use Rattle.cue_list.specs.declared.script.Script.{Script}
 use Rattle.cue_list.specs.declared.script_reader.RecordFault.{RecordFault}
 use Rattle.cue_list.specs.declared.script_reader.RecordFault.TheVariants as record_faults

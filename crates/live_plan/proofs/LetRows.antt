@@ -7,10 +7,10 @@ use Rattle.std.proofs.Math.Seq.{take-append_seam}
 use Rattle.sub_base.specs.Pace.{pace_of}
 use Rattle.sub_base.specs.Profile.{profile_of}
 use Rattle.bitmap_font.specs.Font.{FontValue}
-use Rattle.cue_list.specs.CellFaults.{value_at}
+use Rattle.cue_records.specs.CellFaults.{value_at}
 use Rattle.cue_list.specs.Past.{ScriptPast, looking_back}
 use Rattle.cue_list.specs.RowFaults.{fault_of}
-use Rattle.cue_list.specs.Rows.{Row, rows_of}
+use Rattle.cue_records.specs.Rows.{Row, rows_of}
 use Rattle.cue_list.specs.SeenReaders.{seen_of}
 use Rattle.cue_list.specs.TakenRows.{StandsFor, next_fault}
 use Rattle.cue_list.specs.TickRows.{is_not_above, is_tick_row, tick_row_fault}

@@ -10,14 +10,14 @@ use Rattle.sub_base.specs.declared.profile.Profile.{Profile}
 use Rattle.sub_base.specs.declared.profile.ProfileName.{ProfileName}
 use Rattle.cue_list.specs.declared.epoch.Epoch.{Epoch}
 use Rattle.cue_list.specs.declared.script.Script.{Script}
-use Rattle.page_epoch.specs.Growth.{Grows}
+use Rattle.grown_script_laws.specs.Growth.{Grows}
 use Rattle.page_epoch.specs.Plan.{ArePlanned, IsPlan}
 use Rattle.page_epoch.specs.declared.planned_set.PlannedSet.{PlannedSet}
-use Rattle.page_epoch.proofs.GrownPlans.{HasGrown, sets_have_grown}
+use Rattle.grown_script_laws.proofs.GrownPlans.{HasGrown, sets_have_grown}
 use Rattle.schedule.specs.Slots.{IsOnTime, IsSchedule}
 use Rattle.set_coder.specs.SetSegments.{AreSetPackets}
 use Rattle.set_coder.specs.SetSizes.{IsSetLoad}
-use Rattle.set_coder.proofs.GrownPackets.{load_stays, packets_stay}
+use Rattle.grown_script_laws.proofs.GrownPackets.{load_stays, packets_stay}
 use Rattle.shown_stream.specs.Compiled.{IsCompiledTo, all_units, compiling_for, sent_pace}
 use Rattle.shown_stream.proofs.OneStream.{one_stream}
 use Rattle.slot_stream.specs.SlotStream.{all_pieces, slot_count}

@@ -9,7 +9,7 @@ use Rattle.sub_base.proofs.TransferSteps.{HasRisen-since}
 use Rattle.sub_base.specs.Counts.{HasRisen}
 use Rattle.sub_base.specs.Endpoints.{AppendsPrefix, Received, Wrote, WrotePrefix}
 use Rattle.sub_base.specs.declared.faults.WriteFailed.{WriteFailed}
-use Rattle.cue_list.specs.Rows.{Row, rows_of}
+use Rattle.cue_records.specs.Rows.{Row, rows_of}
 use Rattle.live_plan.proofs.DueFurther.{due_goes_further}
 use Rattle.live_plan.proofs.DueRows.{batch_goes_on, due_begins, runs_let_in}
 use Rattle.live_plan.specs.LetIn.{LetIn}

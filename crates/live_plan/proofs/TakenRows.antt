@@ -5,20 +5,21 @@ use Rattle.std.proofs.lemmas.Bool.Decides.{nat_tests}
 use Rattle.std.proofs.lemmas.List.{length-reverse, reverse-append, take_all}
 use Rattle.std.proofs.lemmas.List.Folds.{list_any-append}
 use Rattle.bitmap_font.specs.Font.{FontValue}
-use Rattle.cue_list.specs.CellFaults.{is_text_row, tick_fault, value_at}
-use Rattle.cue_list.specs.Cells.{cell_at}
+use Rattle.cue_records.specs.CellFaults.{is_text_row, tick_fault, value_at}
+use Rattle.cue_records.specs.Cells.{cell_at}
 use Rattle.cue_list.specs.Past.{ScriptPast, looking_back}
-use Rattle.cue_list.specs.Records.{Record, is, kind_of, record_of, records_from}
+use Rattle.cue_records.specs.Records.{Record, is, kind_of, record_of, records_from}
 use Rattle.cue_list.specs.RowFaults.{fault_of, is_misplaced}
-use Rattle.cue_list.specs.Rows.{Row}
+use Rattle.cue_records.specs.Rows.{Row}
 use Rattle.cue_list.specs.ScriptRows.{Lists}
 use Rattle.cue_list.specs.TakenRows.{IsScriptOf}
 use Rattle.cue_list.specs.TickRows.{is_not_above, is_tick_row, tick_row_fault}
-use Rattle.cue_list.specs.declared.fault.ScriptKind.TheVariants as faults
-use Rattle.cue_list.specs.declared.row_kind.RowKind.{RowKind}
-use Rattle.cue_list.specs.declared.row_kind.RowKind.TheVariants as kinds
+use Rattle.cue_records.specs.declared.fault.ScriptKind.TheVariants as faults
+use Rattle.cue_records.specs.declared.row_kind.RowKind.{RowKind}
+use Rattle.cue_records.specs.declared.row_kind.RowKind.TheVariants as kinds
 use Rattle.cue_list.specs.declared.script.Script.{Script}
-use Rattle.cue_list.proofs.FactLaws.{IsRightRow-from, passed, right}
+use Rattle.cue_list.proofs.FactLaws.{IsValidRow-from}
+use Rattle.cue_records.proofs.TestLaws.{passed, right}
 use Rattle.live_plan.specs.LetIn.{LetIn}
 use Rattle.live_plan.specs.LiveRows.{AHEAD, Inserter, IsLetIn, RowOrTick, row, tick, early_behind, early_tick, has_epoch, is_within, last_tick, nearest_in, next_record, records_in, rows_in}
 
@@ -183,7 +184,7 @@ late_epoch inserter (row cells ∷ past) let_in some =
     let number = length (rows_in past) + 1 in
     let earlier = nearest_in past in
     let is_in = row_let_in inserter past cells let_in in
-    let placed = (IsRightRow-from font (looking_back font earlier) kind number cells
+    let placed = (IsValidRow-from font (looking_back font earlier) kind number cells
     (row_right inserter past cells is_in)).placed in
     let there : is_some (find (is kinds.Epoch) (next_record past cells ∷ earlier)) ≡ true =
     sym (ap (λ (rows : List Record). is_some (find (is kinds.Epoch) rows)) (nearest_more past cells)) ∙ some in

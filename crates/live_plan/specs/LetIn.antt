@@ -1,6 +1,6 @@
 -- What was let in row by row, and scripts of what was let in.
 use Rattle.std.specs.Prelude.{◌≡◌, true, List, [], ◌∷◌}
-use Rattle.cue_list.specs.Rows.{Row}
+use Rattle.cue_records.specs.Rows.{Row}
 use Rattle.cue_list.specs.TakenRows.{IsScriptOf}
 use Rattle.cue_list.specs.declared.script.Script.{Script}
 use Rattle.live_plan.specs.LiveRows.{Inserter, IsLetIn, RowOrTick, has_epoch, records_in, taken_as}

@@ -3,7 +3,7 @@ use Rattle.std.specs.Prelude.{◌≡◌, ◌≢◌, ℕ, ◌+◌, ◌≤◌, ◌
 use Rattle.std.specs.Io.KnownBytes.{Consumes}
 use Rattle.bitmap_font.specs.Font.{FontValue}
 use Rattle.command_text.specs.Lines.{line_end, then_number}
-use Rattle.cue_list.specs.Rows.{Row, rows_of}
+use Rattle.cue_records.specs.Rows.{Row, rows_of}
 use Rattle.cue_list.specs.TakenRows.{IsScriptOf}
 use Rattle.cue_list.specs.declared.script.Script.{Script}
 use Rattle.script_input.specs.ReadScript.{HasFont, IsFontRefused, text_limit}

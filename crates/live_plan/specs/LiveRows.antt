@@ -5,16 +5,16 @@ use Rattle.sub_base.specs.Pace.{pace_of}
 use Rattle.sub_base.specs.Profile.{profile_of}
 use Rattle.sub_base.specs.declared.profile.ProfileName.{ProfileName}
 use Rattle.bitmap_font.specs.Font.{FontValue}
-use Rattle.cue_list.specs.CellFaults.{value_at}
-use Rattle.cue_list.specs.Cells.{cell_at}
+use Rattle.cue_records.specs.CellFaults.{value_at}
+use Rattle.cue_records.specs.Cells.{cell_at}
 use Rattle.cue_list.specs.Past.{looking_back}
-use Rattle.cue_list.specs.Records.{Record, is, kind_of, record_of, records_from}
+use Rattle.cue_records.specs.Records.{Record, is, kind_of, record_of, records_from}
 use Rattle.cue_list.specs.RowFaults.{fault_of}
-use Rattle.cue_list.specs.Rows.{Row, rows_of}
+use Rattle.cue_records.specs.Rows.{Row, rows_of}
 use Rattle.cue_list.specs.TakenRows.{IsScriptOf}
 use Rattle.cue_list.specs.TickRows.{first_tick, is_tick_row, tick_row_fault}
-use Rattle.cue_list.specs.declared.fault.ScriptKind.{ScriptKind}
-use Rattle.cue_list.specs.declared.row_kind.RowKind.TheVariants as kinds
+use Rattle.cue_records.specs.declared.fault.ScriptKind.{ScriptKind}
+use Rattle.cue_records.specs.declared.row_kind.RowKind.TheVariants as kinds
 use Rattle.cue_list.specs.declared.script.Script.{Script}
 use Rattle.page_epoch.specs.declared.fault.PlanFault.{PlanFault}
 use Rattle.schedule.specs.declared.fault.ScheduleFault.{ScheduleFault}

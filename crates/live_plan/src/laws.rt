@@ -1,7 +1,7 @@
 ghost use Rattle.std.specs.Prelude.{◌*◌, ◌+◌, ◌++◌, ◌∷◌, ◌≡◌, length, List, Some, ℕ};
-ghost use Rattle.cue_list.specs.Rows.{Row};
+ghost use Rattle.cue_records.specs.Rows.{Row};
 ghost use Rattle.cue_list.specs.declared.script.Script.{Script};
-ghost use Rattle.page_epoch.specs.Growth.{Grows};
+ghost use Rattle.grown_script_laws.specs.Growth.{Grows};
 ghost use Rattle.stream_syntax.specs.declared.wire.TheConstants.{PACKET_LENGTH};
 ghost use Rattle.live_plan.specs.LetIn.{IsScriptBehind, LetIn};
 ghost use Rattle.live_plan.specs.LiveRows.{due_front, last_tick, row, tick, Inserter, IsBatchOf, IsDue, RowOrTick, AHEAD};

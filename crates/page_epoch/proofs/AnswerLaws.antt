@@ -12,7 +12,7 @@ use Rattle.std.proofs.lemmas.Option.{get_or_from_slice_get, slice_get-get_or, sl
 use Rattle.sub_base.specs.declared.profile.Profile.{Profile}
 use Rattle.cue_list.specs.declared.epoch.Cue.{Cue}
 use Rattle.cue_list.specs.declared.epoch.Epoch.{Epoch}
-use Rattle.cue_list.specs.declared.epoch.Region.{Region}
+use Rattle.cue_records.specs.declared.region.Region.{Region}
 use Rattle.cue_list.specs.declared.script.Script.{Script}
 use Rattle.page_epoch.specs.declared.fault.PlanFault.{PlanFault}
 use Rattle.page_epoch.specs.declared.fault.PlanFault.TheVariants.{Memory, DisplayTooLarge, PixelFull, CompositionFull}

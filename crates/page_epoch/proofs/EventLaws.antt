@@ -12,7 +12,7 @@ use Rattle.std.proofs.lemmas.Map.Lookups.{exact_unsigned}
 use Rattle.std.proofs.lemmas.Map.Views.{All-found, btree_map_get_iff}
 use Rattle.std.proofs.lemmas.Bool.{eqb-true, eqb-false}
 use Rattle.cue_list.specs.declared.epoch.Epoch.{Epoch}
-use Rattle.cue_list.specs.declared.epoch.ColourRow.{ColourRow}
+use Rattle.cue_records.specs.declared.row_values.ColourRow.{ColourRow}
 use Rattle.cue_list.specs.declared.epoch.Cue.{Cue}
 use Rattle.cue_list.specs.Sound.{ticks_of, ticks_of_cue}
 use Rattle.page_epoch.specs.declared.events.Event.{Event}

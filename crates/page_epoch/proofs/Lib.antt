@@ -3,13 +3,6 @@ pub mod ChangeLaws
 pub mod ClutLaws
 pub mod CountLaws
 pub mod WalkLaws
-pub mod GrownCluts
-pub mod GrownCues
-pub mod GrownInstants
-pub mod GrownPlans
-pub mod GrownRows
-pub mod GrownSets
-pub mod GrowthLaws
 pub mod InstantLaws
 pub mod LastInstants
 pub mod ListLaws

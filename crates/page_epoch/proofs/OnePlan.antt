@@ -15,7 +15,7 @@ use Rattle.sub_base.specs.Lists.{has_some}
 use Rattle.sub_base.specs.Picture.{Picture}
 use Rattle.cue_list.specs.declared.epoch.Cue.{Cue}
 use Rattle.cue_list.specs.declared.epoch.Epoch.{Epoch}
-use Rattle.cue_list.specs.declared.epoch.Region.{Region}
+use Rattle.cue_records.specs.declared.region.Region.{Region}
 use Rattle.cue_list.specs.declared.script.Script.{Script}
 use Rattle.cue_list.specs.Sound.{AreSeparate, IsSoundScript}
 use Rattle.stream_syntax.specs.declared.page.State.{State}

@@ -8,7 +8,7 @@ use Rattle.std.proofs.lemmas.List.FromFn.{length-range_with_len}
 use Rattle.sub_base.specs.declared.depth.Depth.TheVariants.{Two, Four, Eight}
 use Rattle.sub_base.specs.declared.depth.Depth.{Depth}
 use Rattle.sub_base.specs.Depth.{code_count}
-use Rattle.cue_list.specs.declared.epoch.ColourRow.{ColourRow}
+use Rattle.cue_records.specs.declared.row_values.ColourRow.{ColourRow}
 use Rattle.page_epoch.specs.declared.clut_rows.Entry.{Entry}
 use Rattle.page_epoch.specs.SentCluts.{row_at, entries_at, all_entries, rows_of_clut, rows_of_entry, is_of_entry, later_place, latest_place, by_tick, row_by, defined_rows}
 use Rattle.page_epoch.proofs.ListLaws.{All-none, All-one, All-pieces, one_each, kept_within, filter_agree, filter_none, flat_map_none}

@@ -8,10 +8,10 @@ use Rattle.std.proofs.lemmas.List.Elements.{All-cons, All-head, All-tail, All-ap
 use Rattle.std.proofs.lemmas.List.Sums.{get_or-le-sum_by}
 use Rattle.std.proofs.lemmas.Option.{get_or_from_slice_get}
 use Rattle.sub_base.specs.Picture.{Picture}
-use Rattle.cue_list.specs.declared.limits.TheConstants.{LATEST_ORIGIN}
+use Rattle.cue_records.specs.declared.limits.TheConstants.{LATEST_ORIGIN}
 use Rattle.cue_list.specs.declared.epoch.Epoch.{Epoch}
-use Rattle.cue_list.specs.declared.epoch.Region.{Region}
-use Rattle.cue_list.specs.declared.epoch.ColourRow.{ColourRow}
+use Rattle.cue_records.specs.declared.region.Region.{Region}
+use Rattle.cue_records.specs.declared.row_values.ColourRow.{ColourRow}
 use Rattle.cue_list.specs.declared.epoch.Cue.{Cue}
 use Rattle.cue_list.specs.Sound.{IsSoundScript, IsEpoch, IsRegion, IsColourRow, IsCue, ticks_of, ticks_of_cue}
 use Rattle.page_epoch.specs.Instants.{named_ticks}

@@ -12,7 +12,7 @@ use Rattle.std.proofs.lemmas.Bool.{eq-eqb}
 use Rattle.sub_base.specs.declared.depth.Depth.TheVariants.{Two, Four, Eight}
 use Rattle.sub_base.specs.declared.depth.Depth.{Depth}
 use Rattle.sub_base.specs.Depth.{bits_of, code_count}
-use Rattle.cue_list.specs.declared.epoch.ColourRow.{ColourRow}
+use Rattle.cue_records.specs.declared.row_values.ColourRow.{ColourRow}
 use Rattle.page_epoch.specs.declared.clut_rows.Entry.{Entry}
 use Rattle.page_epoch.specs.declared.clut_changes.Change.{Change}
 use Rattle.page_epoch.specs.SentCluts.{row_at, entries_at, all_entries, rows_of_clut, rows_of_entry, is_of_entry, later_place, latest_place, by_tick, defined_rows}

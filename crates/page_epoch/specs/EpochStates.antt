@@ -1,8 +1,8 @@
 -- What is kept of an epoch from instant to instant. The instants so far are given, the latest first.
 use Rattle.std.specs.Prelude.{ℕ, ◌+◌, ◌-◌, ◌%◌, ◌==◌, ◌<◌, ◌≤◌, All, Bool, true, false, not, ◌&&◌, if◌then◌else◌, List, [], ◌∷◌, length, map, count_by, Option, Some, None, ⊤}
-use Rattle.cue_list.specs.declared.limits.TheConstants.{MOST_CUES}
+use Rattle.cue_records.specs.declared.limits.TheConstants.{MOST_CUES}
 use Rattle.cue_list.specs.declared.epoch.Cue.{Cue}
-use Rattle.cue_list.specs.declared.epoch.ColourRow.{ColourRow}
+use Rattle.cue_records.specs.declared.row_values.ColourRow.{ColourRow}
 use Rattle.page_epoch.specs.declared.region_state.RegionCues.{RegionCues}
 use Rattle.page_epoch.specs.declared.region_state.RegionState.{RegionState}
 use Rattle.page_epoch.specs.declared.clut_changes.ClutChanges.{ClutChanges}

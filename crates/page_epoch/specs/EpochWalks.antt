@@ -1,9 +1,9 @@
 -- Where the walk over the instants stands in an epoch. The instants of the epoch so far are given, the latest first.
 use Rattle.std.specs.Prelude.{◌≡◌, ◌≢◌, ℕ, ◌+◌, ◌%◌, ◌^◌, ◌<◌, ◌≤◌, Bool, true, false, not, ◌&&◌, ◌⊎◌, if◌then◌else◌, List, [], ◌∷◌, length, All, Some, slice_get}
 use Rattle.stream_syntax.specs.declared.page.State.{State}
-use Rattle.cue_list.specs.declared.limits.TheConstants.{MOST_COLOURS, MOST_CUES, MOST_EPOCHS, MOST_REGIONS}
+use Rattle.cue_records.specs.declared.limits.TheConstants.{MOST_COLOURS, MOST_CUES, MOST_EPOCHS, MOST_REGIONS}
 use Rattle.cue_list.specs.declared.epoch.Epoch.{Epoch}
-use Rattle.cue_list.specs.declared.epoch.Region.{Region}
+use Rattle.cue_records.specs.declared.region.Region.{Region}
 use Rattle.page_epoch.specs.declared.planned_set.PlannedSet.{PlannedSet}
 use Rattle.page_epoch.specs.declared.layout.Layout.{Layout}
 use Rattle.page_epoch.specs.declared.epoch_state.EpochState.{EpochState}

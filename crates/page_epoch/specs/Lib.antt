@@ -1,4 +1,3 @@
-pub mod Growth
 pub mod Instants
 pub mod Live
 pub mod Needs

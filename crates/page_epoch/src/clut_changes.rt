@@ -1,7 +1,7 @@
 ghost use Rattle.std.specs.Prelude.{◌≡◌, ◌==◌, ◌<◌, ◌≤◌, nat_le, true, false, length, map, All, IfOk};
 ghost use Rattle.std.specs.List.{list_any};
 ghost use Rattle.std.specs.List.Sorted.{IsNonDecreasingBy, IsPartitionPoint, IsStrictlyIncreasing};
-ghost use Rattle.cue_list.specs.declared.limits.TheConstants.{MOST_COLOURS};
+ghost use Rattle.cue_records.specs.declared.limits.TheConstants.{MOST_COLOURS};
 ghost use Rattle.page_epoch.specs.SentCluts.{row_at, all_entries as entries_of, named_cluts};
 ghost use Rattle.page_epoch.specs.Private.Changes.{change_at, AreTicksOf, AreChanges};
 

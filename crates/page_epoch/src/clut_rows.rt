@@ -2,8 +2,8 @@ ghost use Rattle.std.specs.Prelude.{◌≡◌, ℕ, ◌+◌, ◌++◌, ◌==◌,
 ghost use Rattle.std.specs.List.{flat_map};
 ghost use Rattle.std.specs.List.Sorted.{IsNonDecreasingBy, IsPartitionPoint};
 ghost use Rattle.std.specs.Option.{option_to_list};
-ghost use Rattle.cue_list.specs.declared.epoch.ColourRow.{ColourRow};
-ghost use Rattle.cue_list.specs.declared.limits.TheConstants.{MOST_COLOURS};
+ghost use Rattle.cue_records.specs.declared.row_values.ColourRow.{ColourRow};
+ghost use Rattle.cue_records.specs.declared.limits.TheConstants.{MOST_COLOURS};
 ghost use Rattle.page_epoch.specs.declared.clut_rows.Entry.{Entry};
 ghost use Rattle.page_epoch.specs.SentCluts.{row_at, entries_at, all_entries as entries_of, rows_of_clut as clut_rows_of, is_of_entry as is_of};
 ghost use Rattle.page_epoch.specs.Private.Changes.{first_of, current_of, AreInOrder};

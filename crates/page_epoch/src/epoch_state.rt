@@ -1,6 +1,6 @@
 ghost use Rattle.std.specs.Prelude.{◌≡◌, ℕ, ◌<◌, ◌≤◌, List, [], length, map, All, IfOk};
 ghost use Rattle.cue_list.specs.declared.epoch.Epoch.{Epoch as EpochValue};
-ghost use Rattle.cue_list.specs.declared.limits.TheConstants.{MOST_EPOCHS};
+ghost use Rattle.cue_records.specs.declared.limits.TheConstants.{MOST_EPOCHS};
 ghost use Rattle.stream_syntax.specs.Segments.{is_entry_state as is_entry_state_of};
 ghost use Rattle.page_epoch.specs.EpochStates.{first_region_state};
 ghost use Rattle.page_epoch.specs.Private.Layouts.{IsLayout};

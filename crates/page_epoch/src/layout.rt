@@ -1,6 +1,6 @@
 ghost use Rattle.std.specs.Prelude.{◌≡◌, ◌*◌, ◌<◌, ◌≤◌, ◌^◌, length, map, All, IfOk, sum_by};
 ghost use Rattle.std.specs.List.Sorted.{IsPermutation, IsNonDecreasing};
-ghost use Rattle.cue_list.specs.declared.limits.TheConstants.{MOST_COLOURS, MOST_CUES, MOST_REGIONS};
+ghost use Rattle.cue_records.specs.declared.limits.TheConstants.{MOST_COLOURS, MOST_CUES, MOST_REGIONS};
 ghost use Rattle.page_epoch.specs.EpochStates.{AreOwn, IsSmallRegionState};
 ghost use Rattle.page_epoch.specs.Private.Layouts.{IsLayout, ArePageRegions, shown_of};
 ghost use Rattle.page_epoch.specs.SentRegions.{listed_cues, AreOrdered};

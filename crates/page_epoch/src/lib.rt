@@ -25,15 +25,8 @@ mod region_state;
 // The plan.
 mod plan;
 
-// What holds of scripts that go on.
-mod laws;
-
 pub use epoch_state::is_entry_state;
 pub use fault::PlanFault;
-pub use laws::{
-    epochs_stay, instants_stay, live_places_stay, names_stay, page_version_stays, rows_stay,
-    sets_stay,
-};
 pub use plan::Plan;
 pub use planned_set::{PlannedSet, SentClut, SentRegion};
 pub use stream_syntax::State;

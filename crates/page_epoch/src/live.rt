@@ -1,7 +1,7 @@
 ghost use Rattle.std.specs.Prelude.{◌≡◌, ℕ, ◌+◌, ◌-◌, ◌++◌, ◌≤◌, nat_le, true, false, length, filter, IfOk, OnOk, map};
 ghost use Rattle.std.specs.List.{slice_range};
 ghost use Rattle.std.specs.List.Sorted.{IsNonDecreasing, IsNonDecreasingBy, IsPartitionPoint, IsStrictlyIncreasing};
-ghost use Rattle.cue_list.specs.declared.limits.TheConstants.{MOST_CUES};
+ghost use Rattle.cue_records.specs.declared.limits.TheConstants.{MOST_CUES};
 ghost use Rattle.page_epoch.specs.Live.{cue_at, times, AreStarts};
 ghost use Rattle.cue_list.specs.Authored.{is_live as is_live_by};
 

@@ -1,7 +1,7 @@
 ghost use Rattle.std.specs.Prelude.{◌≡◌, ℕ, ◌+◌, ◌≤◌, true, length, ◌∷◌, ◌++◌, All, IfOk, OnOk, List};
 ghost use Rattle.std.specs.Option.{option_to_list};
 ghost use Rattle.std.specs.List.{flat_map};
-ghost use Rattle.cue_list.specs.declared.limits.TheConstants.{MOST_CUES};
+ghost use Rattle.cue_records.specs.declared.limits.TheConstants.{MOST_CUES};
 ghost use Rattle.page_epoch.specs.Live.{started_by, live_places, AreStarts};
 ghost use Rattle.page_epoch.specs.EpochStates.{region_after, region_state, region_states, is_first, IsReachedBy, AreOwn, IsSmallRegionState};
 ghost use Rattle.page_epoch.specs.SentRegions.{is_redrawn as is_redrawn_of, is_extended as is_extended_of, region_from, sent_region};

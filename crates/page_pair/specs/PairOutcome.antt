@@ -10,7 +10,7 @@ use Rattle.sub_base.specs.ToolOutcome.{Causes}
 use Rattle.sub_base.specs.declared.load.TheConstants.{UNIT_ROOM}
 use Rattle.sub_base.specs.declared.load.WriteLoad.{WriteLoad}
 use Rattle.sub_base.specs.declared.profile.ProfileName.{ProfileName}
-use Rattle.cue_list.specs.declared.limits.TheConstants.{LONGEST_SCRIPT}
+use Rattle.cue_records.specs.declared.limits.TheConstants.{LONGEST_SCRIPT}
 use Rattle.cue_list.specs.declared.script.Script.{Script}
 use Rattle.decoder_model.specs.declared.pages.Pages.{Pages}
 use Rattle.page_epoch.specs.Plan.{IsPlan}

@@ -1,5 +1,5 @@
 ghost use Rattle.std.specs.Prelude.{◌≡◌, ◌≤◌, ◌^◌, All, IfOk, length};
-ghost use Rattle.cue_list.specs.declared.limits.TheConstants.{MOST_CUES};
+ghost use Rattle.cue_records.specs.declared.limits.TheConstants.{MOST_CUES};
 ghost use Rattle.page_epoch.specs.Sendable.{HasCue, IsOfItsEpoch};
 ghost use Rattle.set_coder.specs.KeptBlocks.{AreCoded};
 ghost use Rattle.set_coder.specs.Usable.{AreDrawable};

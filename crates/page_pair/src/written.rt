@@ -1,5 +1,5 @@
 ghost use Rattle.std.specs.Prelude.{◌≡◌, ◌-◌, ◌<◌, ◌≤◌, [], ◌∷◌, max, map, length, All, IfOk, OnOk};
-ghost use Rattle.cue_list.specs.declared.limits.TheConstants.{MOST_CUES, MOST_REGIONS};
+ghost use Rattle.cue_records.specs.declared.limits.TheConstants.{MOST_CUES, MOST_REGIONS};
 ghost use Rattle.page_epoch.specs.Sendable.{HasCue, HasRegion, IsSendableClut, IsSendableIn, IsSendableRegion};
 ghost use Rattle.set_coder.specs.SetSegments.{clut_segment_of, display_segments, page_segment};
 ghost use Rattle.set_coder.specs.Usable.{IsUsable};

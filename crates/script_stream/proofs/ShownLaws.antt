@@ -4,7 +4,7 @@ use Rattle.std.specs.Prelude.{nat_le}
 use Rattle.std.proofs.Common.{◌≡◌, ◌∙◌, ℕ, ◌+◌, ◌<◌, ◌≤◌, Bool, List, [], ◌∷◌, map, sym, subst, arith}
 use Rattle.std.proofs.lemmas.List.Elements.{All-filter, All-from_recursion, All-map}
 use Rattle.cue_list.specs.Sound.{IsTick}
-use Rattle.cue_list.specs.declared.limits.TheConstants.{LONGEST_SCRIPT}
+use Rattle.cue_records.specs.declared.limits.TheConstants.{LONGEST_SCRIPT}
 use Rattle.cue_list.specs.declared.script.Script.{Script}
 use Rattle.decoder_model.specs.Streams.{SentSet, Sending, is_received_at}
 use Rattle.page_epoch.specs.Plan.{IsPlan}

@@ -16,7 +16,7 @@ use Rattle.stream_syntax.specs.declared.wire.TheConstants.{TIME_ROUND}
 use Rattle.cue_list.specs.Sound.{IsSoundScript}
 use Rattle.cue_list.specs.declared.epoch.Cue.{Cue}
 use Rattle.cue_list.specs.declared.epoch.Epoch.{Epoch}
-use Rattle.cue_list.specs.declared.limits.TheConstants.{MOST_CUES}
+use Rattle.cue_records.specs.declared.limits.TheConstants.{MOST_CUES}
 use Rattle.cue_list.specs.declared.script.Script.{Script}
 use Rattle.page_epoch.specs.Live.{cue_at}
 use Rattle.page_epoch.specs.Sendable.{HasCue, IsOfItsEpoch}
@@ -27,8 +27,8 @@ use Rattle.set_coder.specs.SetSegments.{AreObjectsOf, AreSetPackets, AreSetSegme
 use Rattle.set_coder.specs.SetSizes.{AreObjectSizes, AreUnitSizes, FitsPackets, IsObjectSize}
 use Rattle.set_coder.specs.Usable.{AreDrawable, IsDrawable}
 use Rattle.set_coder.proofs.BlockLaws.{are_blocks}
-use Rattle.set_coder.proofs.Drawing.{field_drawn}
-use Rattle.set_coder.proofs.FieldLaws.{same_fields}
+use Rattle.picture_fields.proofs.Drawing.{field_drawn}
+use Rattle.picture_fields.proofs.FieldLaws.{same_fields}
 use Rattle.set_coder.proofs.ObjectLaws.{object_is, object_sized, object_writable}
 use Rattle.set_coder.proofs.SetPacketLaws.{objects_fit, set_packets, units_of}
 use Rattle.set_coder.proofs.UsableLaws.{usable}

@@ -3,8 +3,8 @@ ghost use Rattle.shown_stream.specs.Compiled.{IsCompiledFor, IsCompiledTo, Compi
 ghost use Rattle.stream_syntax.specs.declared.wire.TheConstants.{NULL_PID};
 ghost use Rattle.script_stream.specs.ShownRightly.{IsShownRightly};
 
-/// Bytes to which a script is compiled are packets, of which receivers show what the script
-/// authors, wherever they enter them and whatever they lose, and which their buffers hold in time.
+/// The bytes to which a script is compiled are packets. Receivers show of them what the script
+/// authors, wherever they enter and whatever they lose, and their buffers hold them in time.
 pub fn compiled_is_shown()
     ensures { (compiling : Compiling) (bytes : List ℕ)
         → compiling.pid < NULL_PID → IsCompiledFor compiling.profile

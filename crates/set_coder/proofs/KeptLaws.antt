@@ -10,7 +10,7 @@ use Rattle.sub_base.specs.Picture.{Picture}
 use Rattle.sub_base.specs.declared.depth.Depth.{Depth}
 use Rattle.cue_list.specs.declared.epoch.Cue.{Cue}
 use Rattle.cue_list.specs.declared.epoch.Epoch.{Epoch}
-use Rattle.cue_list.specs.declared.epoch.Region.{Region}
+use Rattle.cue_records.specs.declared.region.Region.{Region}
 use Rattle.page_epoch.specs.Sendable.{find_region}
 use Rattle.set_coder.specs.declared.coded_picture.CodedPicture.{CodedPicture}
 use Rattle.set_coder.specs.KeptBlocks.{IsCoded, FitsLargestBuffer, IsOf, IsPictureKept, IsCueKept}

@@ -1,8 +1,5 @@
 pub mod BlockLaws
-pub mod Drawing
-pub mod FieldLaws
 pub mod GrownBlockLaws
-pub mod GrownPackets
 pub mod KeptLaws
 pub mod MeasureLaws
 pub mod NextSizeLaws
@@ -10,7 +7,6 @@ pub mod ObjectLaws
 pub mod OnePackets
 pub mod SetPacketLaws
 pub mod SetSizeLaws
-pub mod SizeLaws
 pub mod SlotLaws
 pub mod UnitPartLaws
 pub mod UsableLaws

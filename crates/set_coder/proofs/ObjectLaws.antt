@@ -18,13 +18,13 @@ use Rattle.segments.specs.Sizes.{object_size}
 use Rattle.segments.proofs.Sizes.{body_size, written_size}
 use Rattle.cue_list.specs.declared.epoch.Cue.{Cue}
 use Rattle.cue_list.specs.declared.epoch.Epoch.{Epoch}
-use Rattle.cue_list.specs.declared.epoch.Region.{Region}
+use Rattle.cue_records.specs.declared.region.Region.{Region}
 use Rattle.page_epoch.specs.Live.{cue_at}
 use Rattle.page_epoch.specs.Sendable.{HasCue}
 use Rattle.set_coder.specs.SetSegments.{epoch_region, picture_of_cue, depth_of_cue, object_segment, IsObjectOf, AreObjectsOf}
 use Rattle.set_coder.specs.SetSizes.{IsObjectSize, AreObjectSizes}
 use Rattle.set_coder.specs.Usable.{IsDrawable, AreDrawable}
-use Rattle.set_coder.proofs.FieldLaws.{field_size, one_sizes}
+use Rattle.picture_fields.proofs.FieldLaws.{field_size, one_sizes}
 use Rattle.set_coder.proofs.WritableLaws.{writable, flag_small}
 
 -- bytes fit their rows

@@ -15,7 +15,7 @@ use Rattle.page_epoch.specs.declared.planned_set.PlannedSet.{PlannedSet}
 use Rattle.segments.specs.Sizes.{object_size}
 use Rattle.set_coder.specs.SetSegments.{picture_of_cue, depth_of_cue}
 use Rattle.set_coder.specs.SetSizes.{leading_sizes, sent_painting, IsObjectSize, AreObjectSizes, AreSegmentSizes, AreUnitSizes, IsSetSize, IsLongestSegment, IsPaintedIn, IsSetLoad}
-use Rattle.set_coder.proofs.FieldLaws.{one_sizes}
+use Rattle.picture_fields.proofs.FieldLaws.{one_sizes}
 
 one_object_size : (pictures : List Picture) (epoch : Epoch) (place size other : ℕ)
     → IsObjectSize pictures epoch place size → IsObjectSize pictures epoch place other → size ≡ other

@@ -17,7 +17,7 @@ use Rattle.cue_list.specs.Authored.{picture_at_place}
 use Rattle.page_epoch.specs.Sendable.{HasRegion}
 use Rattle.cue_list.specs.declared.epoch.Cue.{Cue}
 use Rattle.cue_list.specs.declared.epoch.Epoch.{Epoch}
-use Rattle.cue_list.specs.declared.epoch.Region.{Region}
+use Rattle.cue_records.specs.declared.region.Region.{Region}
 use Rattle.set_coder.specs.SetSegments.{region_or_none, epoch_region}
 use Rattle.set_coder.specs.Usable.{IsUsable, IsUsableRegion, IsUsablePlace, IsDrawable, AreDrawable}
 

@@ -23,7 +23,7 @@ use Rattle.segments.proofs.Sizes.{page_entries_size, listings_size, clut_entries
 use Rattle.segments.proofs.Spellings.{size_is, spelled_as}
 use Rattle.cue_list.specs.Sound.{IsSoundScript}
 use Rattle.cue_list.specs.declared.epoch.Epoch.{Epoch}
-use Rattle.cue_list.specs.declared.epoch.Region.{Region}
+use Rattle.cue_records.specs.declared.region.Region.{Region}
 use Rattle.cue_list.specs.declared.script.Script.{Script}
 use Rattle.page_epoch.specs.Live.{cue_at}
 use Rattle.page_epoch.specs.SentCluts.{row_at}

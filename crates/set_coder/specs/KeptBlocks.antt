@@ -8,7 +8,7 @@ use Rattle.stream_syntax.specs.PixelBlocks.{IsNoDeeper}
 use Rattle.stream_syntax.specs.FieldBlocks.{AreFieldBlocks, AreFieldSizes, DrawsPicture}
 use Rattle.cue_list.specs.declared.epoch.Cue.{Cue}
 use Rattle.cue_list.specs.declared.epoch.Epoch.{Epoch}
-use Rattle.cue_list.specs.declared.epoch.Region.{Region}
+use Rattle.cue_records.specs.declared.region.Region.{Region}
 use Rattle.cue_list.specs.declared.script.Script.{Script}
 use Rattle.page_epoch.specs.Sendable.{find_region}
 use Rattle.set_coder.specs.declared.coded_picture.CodedPicture.{CodedPicture}

@@ -1,6 +1,5 @@
 -- What functions of this crate do inside: no other crate cites these.
 pub mod BothBlocks
-pub mod Rows
 pub mod SizesLeft
 pub mod UnitParts
 pub mod Measuring

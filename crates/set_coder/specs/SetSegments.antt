@@ -19,7 +19,7 @@ use Rattle.stream_syntax.specs.declared.region.Listing.{Listing}
 use Rattle.pes_packets.specs.Units.{IsSharedOut}
 use Rattle.cue_list.specs.Authored.{picture_at_place}
 use Rattle.cue_list.specs.declared.epoch.Epoch.{Epoch}
-use Rattle.cue_list.specs.declared.epoch.Region.{Region}
+use Rattle.cue_records.specs.declared.region.Region.{Region}
 use Rattle.cue_list.specs.declared.script.Script.{Script}
 use Rattle.page_epoch.specs.Live.{cue_at, no_region}
 use Rattle.page_epoch.specs.Sendable.{find_region}

@@ -3,12 +3,12 @@ use Rattle.std.specs.Prelude.{◌≡◌, ◌<◌, ◌≤◌, List, length, All}
 use Rattle.sub_base.specs.Colour.{shown_of}
 use Rattle.sub_base.specs.Picture.{Picture}
 use Rattle.stream_syntax.specs.PixelBlocks.{IsNoDeeper}
-use Rattle.cue_list.specs.declared.limits.TheConstants.{MOST_CUES}
+use Rattle.cue_records.specs.declared.limits.TheConstants.{MOST_CUES}
 use Rattle.cue_list.specs.Authored.{picture_at_place}
-use Rattle.cue_list.specs.declared.epoch.ColourRow.{ColourRow}
+use Rattle.cue_records.specs.declared.row_values.ColourRow.{ColourRow}
 use Rattle.cue_list.specs.declared.epoch.Cue.{Cue}
 use Rattle.cue_list.specs.declared.epoch.Epoch.{Epoch}
-use Rattle.cue_list.specs.declared.epoch.Region.{Region}
+use Rattle.cue_records.specs.declared.region.Region.{Region}
 use Rattle.page_epoch.specs.Sendable.{HasRegion}
 use Rattle.set_coder.specs.SetSegments.{epoch_region}
 

@@ -1,4 +1,4 @@
-use crate::fields::FieldLengths;
+use picture_fields::FieldLengths;
 use sub_base::Depth;
 
 /// The pixel data blocks of a picture's two fields for a region of a depth, one behind the other.

@@ -10,10 +10,10 @@ ghost use Rattle.set_coder.specs.SetSegments.{depth_of_cue, picture_of_cue};
 ghost use Rattle.set_coder.specs.Usable.{AreDrawable};
 
 use crate::coded_picture::KeptBlocks;
-use crate::fields::{FieldLengths, write_fields};
 use crate::named::{cue_at, epoch_region};
 use cue_list::{Epoch, Script};
 use indexed_picture::Indexed;
+use picture_fields::{FieldLengths, write_fields};
 use std::alloc::Global;
 use std::marker::Model;
 use sub_base::{Depth, NoMemory};

@@ -6,11 +6,10 @@ ghost use Rattle.set_coder.specs.GrownBlocks.{AreBlocksOf};
 ghost use Rattle.set_coder.specs.Private.Keeping.{StaysInFront, with_place, FitsBuffer};
 
 use crate::coded_picture::{BlockLookup, CodedPicture, KeptBlocks, Slots};
-use crate::field_sizes::{FieldSizes, field_sizes};
-use crate::fields::{FieldLengths, write_fields};
 use crate::named::region_of;
 use cue_list::{Cue, Epoch, Script};
 use indexed_picture::Indexed;
+use picture_fields::{FieldLengths, FieldSizes, field_sizes, write_fields};
 use pixel_codes::is_no_deeper;
 use std::alloc::Global;
 use sub_base::{Depth, LARGEST_BUFFER, NoMemory};

@@ -1,10 +1,6 @@
-//! The bytes of the display sets that a compiler sends: the pixel data blocks of a picture's two
-//! fields, and the PES packets of a set of a plan, with their sizes.
+//! The bytes of the display sets that a compiler sends: the PES packets of a set of a plan, with
+//! their sizes, and the blocks of pictures that are kept for them.
 #![tactic(auto)]
-
-// Blocks of a picture's two interlace fields, and their sizes.
-mod field_sizes;
-mod fields;
 
 // Blocks that are kept for all sets of a script.
 mod coded_picture;
@@ -22,15 +18,11 @@ mod segment_sizes;
 mod set_packets;
 mod set_sizes;
 
-// Sets of scripts that go on.
-mod laws;
-
 pub use coded_picture::KeptBlocks;
 pub use cue_blocks::CueBlocks;
-pub use fields::{FieldLengths, write_fields};
 pub use grown_blocks::BlocksBefore;
-pub use laws::{loads_stay, packets_stay};
 pub use named::epoch_of;
+pub use picture_fields::{FieldLengths, write_fields};
 pub use set_objects::append_blocks;
 pub use set_packets::write_set;
 pub use set_segments::{append_clut, append_display, append_end, append_listed, append_page};

@@ -1,5 +1,5 @@
 ghost use Rattle.std.specs.Prelude.{◌≡◌, ℕ, ◌≤◌, [], List, length, IfSome, IfNone, option_to_list};
-ghost use Rattle.cue_list.specs.declared.limits.TheConstants.{MOST_COLOURS, MOST_CUES};
+ghost use Rattle.cue_records.specs.declared.limits.TheConstants.{MOST_COLOURS, MOST_CUES};
 ghost use Rattle.pes_packets.specs.Units.{IsSegmentLength};
 ghost use Rattle.page_epoch.specs.Sendable.{HasCue, IsOfItsEpoch};
 ghost use Rattle.set_coder.specs.KeptBlocks.{AreCoded};

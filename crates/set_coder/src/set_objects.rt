@@ -1,6 +1,6 @@
 ghost use Rattle.std.specs.Prelude.{◌≡◌, ℕ, ◌+◌, ◌≤◌, ◌++◌, List, length, All, OnOk};
 ghost use Rattle.std.specs.List.{flat_map};
-ghost use Rattle.cue_list.specs.declared.limits.TheConstants.{MOST_CUES};
+ghost use Rattle.cue_records.specs.declared.limits.TheConstants.{MOST_CUES};
 ghost use Rattle.segments.specs.Sizes.{object_size};
 ghost use Rattle.stream_syntax.specs.FieldBlocks.{AreFieldBlocks, DrawsPicture};
 ghost use Rattle.stream_syntax.specs.SegmentTests.{AreBlocks};

@@ -1,6 +1,6 @@
 ghost use Rattle.std.specs.Prelude.{◌≡◌, ◌<◌, ◌≤◌, ◌++◌, length, map, All, IfOk, OnOk};
 ghost use Rattle.std.specs.List.{flat_map};
-ghost use Rattle.cue_list.specs.declared.limits.TheConstants.{MOST_CUES, MOST_REGIONS};
+ghost use Rattle.cue_records.specs.declared.limits.TheConstants.{MOST_CUES, MOST_REGIONS};
 ghost use Rattle.stream_syntax.specs.Fields.{FitsFields};
 ghost use Rattle.stream_syntax.specs.Segments.{spelled, end_of_set, listing_fields};
 ghost use Rattle.page_epoch.specs.Sendable.{HasRegion, HasCue, HasColour, IsSendableIn, IsSendableRegion, IsSendableClut};

@@ -1,5 +1,5 @@
 ghost use Rattle.std.specs.Prelude.{◌≡◌, ℕ, ◌+◌, ◌*◌, ◌^◌, ◌<◌, ◌≤◌, List, [], ◌∷◌, ◌++◌, length, sum, sum_by, All, IfOk, OnOk, option_to_list};
-ghost use Rattle.cue_list.specs.declared.limits.TheConstants.{MOST_REGIONS};
+ghost use Rattle.cue_records.specs.declared.limits.TheConstants.{MOST_REGIONS};
 ghost use Rattle.pes_packets.specs.Units.{IsSegmentLength, AreUnitLengths};
 ghost use Rattle.page_epoch.specs.Sendable.{IsOfItsEpoch, IsSendableRegion};
 ghost use Rattle.set_coder.specs.KeptBlocks.{AreCoded};

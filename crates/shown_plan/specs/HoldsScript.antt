@@ -6,7 +6,7 @@ use Rattle.sub_base.specs.declared.depth.Depth.{Depth}
 use Rattle.stream_syntax.specs.Segments.{Region, Page, of_page}
 use Rattle.cue_list.specs.Authored.{authored_code, authored_colour, live_cues}
 use Rattle.cue_list.specs.declared.epoch.Epoch.{Epoch}
-use Rattle.cue_list.specs.declared.epoch.Region.{Region as AuthoredRegion}
+use Rattle.cue_records.specs.declared.region.Region.{Region as AuthoredRegion}
 use Rattle.cue_list.specs.declared.script.Script.{Script}
 use Rattle.page_epoch.specs.EpochStates.{changed_version}
 use Rattle.page_epoch.specs.SentRegions.{region_version}

@@ -3,7 +3,7 @@
 ghost use Rattle.std.specs.Prelude.{[], ◌+◌, ◌%◌, ◌∷◌, ◌≡◌, Bool, List, true, ℕ};
 ghost use Rattle.cue_list.specs.declared.epoch.Cue.{Cue};
 ghost use Rattle.cue_list.specs.declared.epoch.Epoch.{Epoch};
-ghost use Rattle.cue_list.specs.declared.epoch.Region.{Region};
+ghost use Rattle.cue_records.specs.declared.region.Region.{Region};
 ghost use Rattle.cue_list.specs.declared.script.Script.{Script};
 ghost use Rattle.decoder_model.specs.Taken.{Taken};
 ghost use Rattle.page_epoch.specs.Live.{live_places};

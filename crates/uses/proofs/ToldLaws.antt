@@ -2,7 +2,7 @@
 use Rattle.std.proofs.Common.{◌≡◌, ◌∙◌, ℕ, ◌+◌, ◌-◌, ◌≤◌, true, List, [], ◌∷◌, ◌++◌, reverse, Option, Some, append-nil, sym, ap, subst, arith}
 use Rattle.std.specs.List.{concat}
 use Rattle.std.specs.Io.KnownBytes.{Appends}
-use Rattle.cue_list.specs.declared.limits.TheConstants.{LONGEST_SCRIPT}
+use Rattle.cue_records.specs.declared.limits.TheConstants.{LONGEST_SCRIPT}
 use Rattle.cue_list.specs.declared.script.Script.{Script}
 use Rattle.decoder_model.specs.Frames.{only}
 use Rattle.decoder_model.specs.Readings.{Reading}

@@ -1,10 +1,10 @@
 -- The epoch of the tests: a region of four pixels, in which two cues are shown, and a colour.
 use Rattle.std.specs.Prelude.{[], ◌∷◌, false, true}
 use Rattle.sub_base.specs.declared.depth.Depth.TheVariants.{Four}
-use Rattle.cue_list.specs.declared.epoch.ColourRow.{ColourRow}
+use Rattle.cue_records.specs.declared.row_values.ColourRow.{ColourRow}
 use Rattle.cue_list.specs.declared.epoch.Cue.{Cue}
 use Rattle.cue_list.specs.declared.epoch.Epoch.{Epoch}
-use Rattle.cue_list.specs.declared.epoch.Region.{Region}
+use Rattle.cue_records.specs.declared.region.Region.{Region}
 
 abbrev pub sample_region : Region
 sample_region = record { id = 0; x = 0; y = 0; width = 4; height = 1; depth = Four; clut = 0 }

@@ -1,12 +1,12 @@
 -- The first tick of a row, as it is read from its second cell.
 use Rattle.std.specs.Prelude.{ℕ, List, Option, None, option_map}
 use Rattle.sub_base.specs.Number.{number_of}
-use Rattle.cue_list.specs.declared.limits.TheConstants.{MOST_DIGITS}
-use Rattle.cue_list.specs.declared.row_kind.RowKind.{RowKind}
-use Rattle.cue_list.specs.declared.row_kind.RowKind.TheVariants as kinds
-use Rattle.cue_list.specs.Cells.{cell_at}
+use Rattle.cue_records.specs.declared.limits.TheConstants.{MOST_DIGITS}
+use Rattle.cue_records.specs.declared.row_kind.RowKind.{RowKind}
+use Rattle.cue_records.specs.declared.row_kind.RowKind.TheVariants as kinds
+use Rattle.cue_records.specs.Cells.{cell_at}
 use Rattle.cue_list.specs.Past.{ScriptPast}
-use Rattle.cue_list.specs.Rows.{Row}
+use Rattle.cue_records.specs.Rows.{Row}
 
 -- the tick in a row's second cell
 abbrev pub tick_in : Row → Option ℕ

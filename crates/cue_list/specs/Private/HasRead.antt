@@ -3,8 +3,8 @@ use Rattle.std.specs.Prelude.{◌≡◌, ℕ, List, drop}
 use Rattle.bitmap_font.specs.Font.{FontValue}
 use Rattle.cue_list.specs.declared.reader.Reader.{Reader}
 use Rattle.cue_list.specs.Past.{looking_back}
-use Rattle.cue_list.specs.Records.{records_of, records_before}
-use Rattle.cue_list.specs.Rows.{Row, rows_of}
+use Rattle.cue_records.specs.Records.{records_of, records_before}
+use Rattle.cue_records.specs.Rows.{Row, rows_of}
 use Rattle.cue_list.specs.ScriptRows.{AreValidRecords, AreDrawn}
 use Rattle.cue_list.specs.Private.State.{IsReader, past_of}
 

@@ -3,26 +3,24 @@
 use Rattle.std.specs.Prelude.{◌≡◌, ℕ, ◌+◌, ◌≤◌, [], ◌∷◌, ◌++◌, length, map, Option, Some, None, option_map, ⊤}
 use Rattle.bitmap_font.specs.Font.{FontValue}
 use Rattle.sub_base.specs.Picture.{Picture}
-use Rattle.cue_list.specs.declared.limits.TheConstants.{LATEST_ORIGIN, MOST_CODES, MOST_COLOURS, MOST_CUES, MOST_PICTURES}
-use Rattle.cue_list.specs.declared.epoch.ColourRow.{ColourRow}
+use Rattle.cue_records.specs.declared.limits.TheConstants.{LATEST_ORIGIN, MOST_CODES, MOST_COLOURS, MOST_CUES, MOST_PICTURES}
+use Rattle.cue_records.specs.declared.row_values.ColourRow.{ColourRow}
 use Rattle.cue_list.specs.declared.epoch.Cue.{Cue}
 use Rattle.cue_list.specs.declared.epoch.Epoch.{Epoch}
-use Rattle.cue_list.specs.declared.epoch.Region.{Region}
-use Rattle.cue_list.specs.declared.fault.ScriptKind.{ScriptKind}
-use Rattle.cue_list.specs.declared.row_values.PictureHead.{PictureHead}
+use Rattle.cue_records.specs.declared.region.Region.{Region}
+use Rattle.cue_records.specs.declared.fault.ScriptKind.{ScriptKind}
+use Rattle.cue_records.specs.declared.row_values.PictureHead.{PictureHead}
 use Rattle.cue_list.specs.declared.reader.Reader.{Reader}
-use Rattle.cue_list.specs.declared.row_fault.RowFault.{RowFault}
-use Rattle.cue_list.specs.declared.row_fault.RowFault.TheVariants.{OutOfMemory, Wrong}
-use Rattle.cue_list.specs.declared.row_kind.RowKind.{RowKind}
-use Rattle.cue_list.specs.declared.row_kind.RowKind.TheVariants as kinds
-use Rattle.cue_list.specs.CellFaults.{first_of, value_at, cells_fault}
-use Rattle.cue_list.specs.Cells.{cell_at}
+use Rattle.cue_records.specs.declared.row_kind.RowKind.{RowKind}
+use Rattle.cue_records.specs.declared.row_kind.RowKind.TheVariants as kinds
+use Rattle.cue_records.specs.CellFaults.{first_of, value_at, cells_fault}
+use Rattle.cue_records.specs.Cells.{cell_at}
 use Rattle.cue_list.specs.Private.Names.{place_by, named_with}
-use Rattle.cue_list.specs.Past.{ScriptPast, area, with_last, head_by, cue_by}
-use Rattle.cue_list.specs.Records.{Record}
+use Rattle.cue_list.specs.Past.{ScriptPast, with_last, head_by, cue_by}
+use Rattle.cue_records.specs.RowValues.{area, region_in, colour_in, head_in}
+use Rattle.cue_records.specs.Records.{Record}
 use Rattle.cue_list.specs.RowFaults.{regions_of, kind_fault}
-use Rattle.cue_list.specs.RowValues.{region_in, colour_in, head_in}
-use Rattle.cue_list.specs.Rows.{Row}
+use Rattle.cue_records.specs.Rows.{Row}
 use Rattle.cue_list.specs.Private.Ticks.{IsTicks, near_by, near_with}
 
 abbrev pub head_of : Picture → PictureHead
@@ -151,8 +149,3 @@ next_with font past row = record (next_by font past row.kind row.number row.cell
 abbrev pub content_fault : FontValue → ScriptPast → RowKind → ℕ → Row → Option ScriptKind
 content_fault font past kind number cells =
     first_of (cells_fault past.origin kind cells ∷ kind_fault font past kind number cells ∷ [])
-
--- why a record was not taken
-abbrev pub IsRowFault : Option ScriptKind → RowFault → Type 0
-IsRowFault fault OutOfMemory = ⊤
-IsRowFault fault (Wrong kind) = fault ≡ Some kind

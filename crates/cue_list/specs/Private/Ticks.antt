@@ -2,7 +2,7 @@
 use Rattle.std.specs.Prelude.{◌≡◌, ℕ, ◌+◌, ◌-◌, ◌/◌, Bool, false, ◌||◌, Option, Some, None}
 use Rattle.std.specs.Ordering.{nat_cmp}
 use Rattle.std.specs.BTreeMap.{get}
-use Rattle.cue_list.specs.declared.limits.TheConstants.{CLOSE_TICKS}
+use Rattle.cue_records.specs.declared.limits.TheConstants.{CLOSE_TICKS}
 use Rattle.cue_list.specs.declared.ticks.Ticks.{Ticks}
 use Rattle.cue_list.specs.Past.{is_close}
 

@@ -1,9 +1,9 @@
 -- A record behind those that were let in: what is left of the packets with it, and why it is refused.
 use Rattle.std.specs.Prelude.{◌≡◌, ℕ, ◌+◌, ◌<◌, ◌^◌, false, if◌then◌else◌, List, ◌∷◌, Option, Some, None, Result, Ok, Err, IfSome}
-use Rattle.cue_list.specs.Rows.{Row}
+use Rattle.cue_records.specs.Rows.{Row}
 use Rattle.cue_list.specs.SeenReaders.{seen_of}
 use Rattle.cue_list.specs.TakenRows.{StandsFor, next_fault}
-use Rattle.cue_list.specs.declared.fault.ScriptKind.{ScriptKind}
+use Rattle.cue_records.specs.declared.fault.ScriptKind.{ScriptKind}
 use Rattle.cue_list.specs.declared.script_reader.RecordFault.{RecordFault}
 use Rattle.cue_list.specs.declared.script_reader.RecordFault.TheVariants as record_faults
 use Rattle.shown_stream.specs.Compiled.{IsCompiledFor}

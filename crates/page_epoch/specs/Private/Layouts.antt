@@ -3,7 +3,7 @@ use Rattle.std.specs.Prelude.{◌≡◌, ℕ, List, length, map, filter, All, sl
 use Rattle.std.specs.List.Sorted.{IsPermutation, IsNonDecreasingBy}
 use Rattle.sub_base.specs.Lists.{has_some}
 use Rattle.cue_list.specs.declared.epoch.Epoch.{Epoch}
-use Rattle.cue_list.specs.declared.epoch.Region.{Region}
+use Rattle.cue_records.specs.declared.region.Region.{Region}
 use Rattle.page_epoch.specs.declared.region_state.RegionState.{RegionState}
 use Rattle.page_epoch.specs.declared.layout.Layout.{Layout}
 use Rattle.page_epoch.specs.declared.layout.PageRegion.{PageRegion}

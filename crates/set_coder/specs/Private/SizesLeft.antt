@@ -1,7 +1,7 @@
 -- Segments of a set that are not measured yet.
 use Rattle.std.specs.Prelude.{◌≡◌, ℕ, ◌+◌, ◌≤◌, List, ◌∷◌, ◌++◌, length, map, All, IfSome, option_to_list}
 use Rattle.pes_packets.specs.Units.{IsSegmentLength}
-use Rattle.cue_list.specs.declared.limits.TheConstants.{MOST_COLOURS, MOST_CUES}
+use Rattle.cue_records.specs.declared.limits.TheConstants.{MOST_COLOURS, MOST_CUES}
 use Rattle.page_epoch.specs.Sendable.{HasCue}
 use Rattle.set_coder.specs.KeptBlocks.{AreCoded}
 use Rattle.set_coder.specs.SetSizes.{region_size, clut_size, AreObjectSizes}

@@ -11,7 +11,7 @@ use Rattle.sub_base.specs.Lists.{last_given}
 use Rattle.sub_base.specs.declared.colour.Colour.{Colour}
 use Rattle.sub_base.specs.declared.depth.Depth.{Depth}
 use Rattle.cue_list.specs.Authored.{sets_entry, later_row, latest_row, colour_or_default, authored_colour}
-use Rattle.cue_list.specs.declared.epoch.ColourRow.{ColourRow}
+use Rattle.cue_records.specs.declared.row_values.ColourRow.{ColourRow}
 use Rattle.page_epoch.proofs.ListLaws.{All-none, map_kept, places_back}
 use Rattle.page_epoch.proofs.RowLaws.{entry_of}
 use Rattle.page_epoch.specs.Live.{places_below}

@@ -19,7 +19,7 @@ use Rattle.stream_syntax.specs.declared.page.PageEntry.{PageEntry}
 use Rattle.cue_list.specs.Authored.{is_live, live_cues, code_of, covers, shows, code_shown, authored_code, authored_colour, lies_in, colour_with, colour_in as authored_in, picture_at_place}
 use Rattle.cue_list.specs.declared.epoch.Cue.{Cue}
 use Rattle.cue_list.specs.declared.epoch.Epoch.{Epoch}
-use Rattle.cue_list.specs.declared.epoch.Region.{Region}
+use Rattle.cue_records.specs.declared.region.Region.{Region}
 use Rattle.cue_list.specs.declared.script.Script.{Script}
 use Rattle.page_epoch.proofs.ListLaws.{All-none}
 use Rattle.page_epoch.specs.Live.{cue_at, live_places}

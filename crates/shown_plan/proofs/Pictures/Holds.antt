@@ -11,7 +11,7 @@ use Rattle.sub_base.specs.declared.profile.Profile.{Profile}
 use Rattle.stream_syntax.specs.Segments.{Page, of_page}
 use Rattle.cue_list.specs.Authored.{authored_code, authored_colour, live_cues}
 use Rattle.cue_list.specs.declared.epoch.Epoch.{Epoch}
-use Rattle.cue_list.specs.declared.epoch.Region.{Region}
+use Rattle.cue_records.specs.declared.region.Region.{Region}
 use Rattle.cue_list.specs.declared.script.Script.{Script}
 use Rattle.page_epoch.specs.Live.{live_places}
 use Rattle.page_epoch.specs.SentRegions.{AreShown}

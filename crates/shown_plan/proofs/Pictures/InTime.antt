@@ -12,7 +12,7 @@ use Rattle.cue_list.specs.Authored.{is_live}
 use Rattle.cue_list.specs.Sound.{ticks_of}
 use Rattle.cue_list.specs.declared.epoch.Cue.{Cue}
 use Rattle.cue_list.specs.declared.epoch.Epoch.{Epoch}
-use Rattle.cue_list.specs.declared.epoch.Region.{Region}
+use Rattle.cue_records.specs.declared.region.Region.{Region}
 use Rattle.cue_list.specs.declared.script.Script.{Script}
 use Rattle.page_epoch.proofs.ListLaws.{All-none, twice_within}
 use Rattle.page_epoch.specs.Instants.{named_ticks, shows_cue, AreNeighbours, IsRefresh, IsInstant}

@@ -15,7 +15,7 @@ use Rattle.cue_list.specs.Authored.{live_cues, authored_code, lies_in, colour_wi
 use Rattle.cue_list.specs.Sound.{ticks_of}
 use Rattle.cue_list.specs.declared.epoch.Cue.{Cue}
 use Rattle.cue_list.specs.declared.epoch.Epoch.{Epoch}
-use Rattle.cue_list.specs.declared.epoch.Region.{Region}
+use Rattle.cue_records.specs.declared.region.Region.{Region}
 use Rattle.cue_list.specs.declared.script.Script.{Script}
 use Rattle.page_epoch.specs.Instants.{named_ticks}
 use Rattle.page_epoch.specs.declared.planned_set.PlannedSet.{PlannedSet}

@@ -10,7 +10,7 @@ use Rattle.sub_base.specs.Lists.{last_given}
 use Rattle.sub_base.specs.declared.depth.Depth.{Depth}
 use Rattle.cue_list.specs.Authored.{epoch_at, is_live, live_cues, sets_entry, latest_row, authored_colour, colour_or_default}
 use Rattle.cue_list.specs.Sound.{ticks_of, ticks_of_cue}
-use Rattle.cue_list.specs.declared.epoch.ColourRow.{ColourRow}
+use Rattle.cue_records.specs.declared.row_values.ColourRow.{ColourRow}
 use Rattle.cue_list.specs.declared.epoch.Cue.{Cue}
 use Rattle.cue_list.specs.declared.epoch.Epoch.{Epoch}
 use Rattle.page_epoch.proofs.ListLaws.{filter_agree}

@@ -16,7 +16,7 @@ use Rattle.sub_base.specs.declared.profile.Profile.{Profile}
 use Rattle.cue_list.specs.Authored.{live_cues}
 use Rattle.cue_list.specs.Sound.{IsSoundScript, ticks_of}
 use Rattle.cue_list.specs.declared.epoch.Epoch.{Epoch}
-use Rattle.cue_list.specs.declared.epoch.Region.{Region}
+use Rattle.cue_records.specs.declared.region.Region.{Region}
 use Rattle.cue_list.specs.declared.script.Script.{Script}
 use Rattle.page_epoch.proofs.AnswerLaws.{one_place, some_same}
 use Rattle.page_epoch.proofs.InstantLaws.{is_named-yes}

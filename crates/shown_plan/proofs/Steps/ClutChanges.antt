@@ -5,7 +5,7 @@ use Rattle.std.specs.List.{Contains, count_by}
 use Rattle.std.specs.Option.{option_or, option_map}
 use Rattle.std.proofs.lemmas.Bool.Decides.{nat_tests}
 use Rattle.std.proofs.lemmas.List.Elements.{All-filter, All-contains_itself}
-use Rattle.cue_list.specs.declared.epoch.ColourRow.{ColourRow}
+use Rattle.cue_records.specs.declared.row_values.ColourRow.{ColourRow}
 use Rattle.page_epoch.proofs.CountLaws.{count_cons, count_none}
 use Rattle.page_epoch.proofs.ListLaws.{filter_agree, filter_none}
 use Rattle.page_epoch.specs.EpochStates.{version_of_count, changed_version}

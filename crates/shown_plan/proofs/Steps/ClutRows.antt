@@ -7,7 +7,7 @@ use Rattle.std.proofs.lemmas.Bool.Decides.{nat_tests}
 use Rattle.std.proofs.lemmas.List.Elements.{All-cons, All-filter, All-contains_itself}
 use Rattle.std.proofs.lemmas.List.Folds.{list_any_at}
 use Rattle.sub_base.specs.Depth.{bits_of, code_count}
-use Rattle.cue_list.specs.declared.epoch.ColourRow.{ColourRow}
+use Rattle.cue_records.specs.declared.row_values.ColourRow.{ColourRow}
 use Rattle.page_epoch.proofs.ListLaws.{All-none, All-pieces}
 use Rattle.page_epoch.proofs.RowLaws.{entry_of, latest_in, own_within}
 use Rattle.page_epoch.specs.Live.{places_below}

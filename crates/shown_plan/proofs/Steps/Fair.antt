@@ -10,10 +10,10 @@ use Rattle.sub_base.specs.Depth.{code_count}
 use Rattle.sub_base.specs.Picture.{Picture, IsPicture}
 use Rattle.cue_list.specs.Authored.{lies_in, picture_at_place}
 use Rattle.cue_list.specs.Sound.{IsSoundScript, IsEpoch, IsRegion, IsCue, FitsRegion, Follows, AreSeparate, ticks_of}
-use Rattle.cue_list.specs.declared.epoch.ColourRow.{ColourRow}
+use Rattle.cue_records.specs.declared.row_values.ColourRow.{ColourRow}
 use Rattle.cue_list.specs.declared.epoch.Cue.{Cue}
 use Rattle.cue_list.specs.declared.epoch.Epoch.{Epoch}
-use Rattle.cue_list.specs.declared.epoch.Region.{Region}
+use Rattle.cue_records.specs.declared.region.Region.{Region}
 use Rattle.cue_list.specs.declared.script.Script.{Script}
 use Rattle.page_epoch.proofs.SoundLaws.{epoch_ticks, plain}
 use Rattle.page_epoch.specs.Sendable.{HasRegion}

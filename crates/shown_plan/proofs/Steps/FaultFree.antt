@@ -12,7 +12,7 @@ use Rattle.stream_syntax.specs.Segments.{end_of_set, Page, Region, is_entry_stat
 use Rattle.stream_syntax.specs.declared.page.State.{State}
 use Rattle.stream_syntax.specs.declared.page.State.TheVariants.{Normal, Acquisition, ModeChange}
 use Rattle.cue_list.specs.declared.epoch.Epoch.{Epoch}
-use Rattle.cue_list.specs.declared.epoch.Region.{Region as AuthoredRegion}
+use Rattle.cue_records.specs.declared.region.Region.{Region as AuthoredRegion}
 use Rattle.cue_list.specs.declared.script.Script.{Script}
 use Rattle.page_epoch.specs.Needs.{node_need, pixel_need}
 use Rattle.page_epoch.specs.Plan.{HasDisplay}

@@ -11,7 +11,7 @@ use Rattle.stream_syntax.specs.Segments.{SegmentValue, of_page, of_region, of_cl
 use Rattle.stream_syntax.specs.declared.page.State.{State}
 use Rattle.stream_syntax.specs.declared.page.State.TheVariants.{Normal, Acquisition, ModeChange}
 use Rattle.cue_list.specs.Sound.{ticks_of, ticks_of_cue}
-use Rattle.cue_list.specs.declared.epoch.ColourRow.{ColourRow}
+use Rattle.cue_records.specs.declared.row_values.ColourRow.{ColourRow}
 use Rattle.cue_list.specs.declared.epoch.Epoch.{Epoch}
 use Rattle.cue_list.specs.declared.script.Script.{Script}
 use Rattle.page_epoch.proofs.ListLaws.{All-none, All-pieces}

@@ -9,7 +9,7 @@ use Rattle.stream_syntax.specs.Segments.{SegmentValue, of_page, of_region, of_cl
 use Rattle.stream_syntax.specs.declared.page.State.{State}
 use Rattle.stream_syntax.specs.declared.page.State.TheVariants.{Normal, Acquisition, ModeChange}
 use Rattle.cue_list.specs.declared.epoch.Epoch.{Epoch}
-use Rattle.cue_list.specs.declared.epoch.Region.{Region}
+use Rattle.cue_records.specs.declared.region.Region.{Region}
 use Rattle.cue_list.specs.declared.script.Script.{Script}
 use Rattle.page_epoch.specs.Live.{no_cue}
 use Rattle.page_epoch.specs.SentCluts.{sent_clut}

@@ -10,7 +10,7 @@ use Rattle.std.proofs.lemmas.List.Kept.{AllPairs-from_increasing}
 use Rattle.sub_base.specs.Picture.{Picture, IsPicture}
 use Rattle.stream_syntax.specs.Segments.{Object}
 use Rattle.cue_list.specs.declared.epoch.Epoch.{Epoch}
-use Rattle.cue_list.specs.declared.epoch.Region.{Region as AuthoredRegion}
+use Rattle.cue_records.specs.declared.region.Region.{Region as AuthoredRegion}
 use Rattle.page_epoch.proofs.LiveLaws.{live_rise}
 use Rattle.page_epoch.proofs.RegionLaws.{version-more}
 use Rattle.page_epoch.specs.Live.{live_places}

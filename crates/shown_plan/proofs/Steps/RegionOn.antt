@@ -15,7 +15,7 @@ use Rattle.stream_syntax.specs.Segments.{Region, Object}
 use Rattle.stream_syntax.specs.declared.region.Listing.{Listing}
 use Rattle.cue_list.specs.Authored.{authored_code}
 use Rattle.cue_list.specs.declared.epoch.Epoch.{Epoch}
-use Rattle.cue_list.specs.declared.epoch.Region.{Region as AuthoredRegion}
+use Rattle.cue_records.specs.declared.region.Region.{Region as AuthoredRegion}
 use Rattle.page_epoch.proofs.RegionLaws.{version-more, drawn_count-more}
 use Rattle.page_epoch.specs.Live.{cue_at, are_same_places, live_places}
 use Rattle.page_epoch.specs.SentRegions.{is_redrawn, region_version, drawn_count, filled, extended}

@@ -15,9 +15,9 @@ use Rattle.sub_base.specs.declared.depth.Depth.{Depth}
 use Rattle.sub_base.specs.declared.depth.Depth.TheVariants.{Two, Four, Eight}
 use Rattle.stream_syntax.specs.Segments.{SegmentValue, of_page, of_region, of_clut, of_object, of_display, end_of_set, passed_over, Clut}
 use Rattle.stream_syntax.specs.declared.clut.ClutEntry.{ClutEntry}
-use Rattle.cue_list.specs.declared.epoch.ColourRow.{ColourRow}
+use Rattle.cue_records.specs.declared.row_values.ColourRow.{ColourRow}
 use Rattle.cue_list.specs.declared.epoch.Epoch.{Epoch}
-use Rattle.cue_list.specs.declared.epoch.Region.{Region as AuthoredRegion}
+use Rattle.cue_records.specs.declared.region.Region.{Region as AuthoredRegion}
 use Rattle.page_epoch.proofs.ListLaws.{All-none, All-pieces, sum_mapped}
 use Rattle.page_epoch.proofs.RowLaws.{entry_of, own_within}
 use Rattle.page_epoch.specs.Live.{places_below}

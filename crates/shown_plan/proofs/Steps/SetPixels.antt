@@ -11,7 +11,7 @@ use Rattle.sub_base.specs.Depth.{bits_of}
 use Rattle.sub_base.specs.declared.profile.Profile.{Profile}
 use Rattle.stream_syntax.specs.Segments.{SegmentValue, of_page, of_region, of_clut, of_object, of_display, end_of_set, passed_over, Region}
 use Rattle.cue_list.specs.declared.epoch.Epoch.{Epoch}
-use Rattle.cue_list.specs.declared.epoch.Region.{Region as AuthoredRegion}
+use Rattle.cue_records.specs.declared.region.Region.{Region as AuthoredRegion}
 use Rattle.page_epoch.proofs.ListLaws.{All-none, sum_mapped}
 use Rattle.page_epoch.specs.Needs.{region_need, pixel_need}
 use Rattle.set_coder.specs.SetSegments.{region_or_none, epoch_region as authored_region}

@@ -10,7 +10,7 @@ use Rattle.sub_base.specs.declared.depth.Depth.TheVariants.{Two}
 use Rattle.cue_list.specs.Sound.{AreSeparate, AreRegions, AreTicksApart, Follows, IsColourRow, IsCue, IsEpoch, IsRegion, IsSoundScript, IsTick, ticks_of}
 use Rattle.cue_list.specs.declared.epoch.Cue.{Cue}
 use Rattle.cue_list.specs.declared.epoch.Epoch.{Epoch}
-use Rattle.cue_list.specs.declared.epoch.Region.{Region}
+use Rattle.cue_records.specs.declared.region.Region.{Region}
 use Rattle.cue_list.specs.declared.script.Script.{Script}
 
 -- ---- its parts

@@ -7,8 +7,8 @@ use Rattle.stream_syntax.specs.PixelBlocks.{Part, IsNoDeeper, AreParts, runs_aft
 use Rattle.stream_syntax.specs.declared.pixel_run.Run.{Run}
 use Rattle.decoder_model.specs.Pixels.{bottom_parts}
 use Rattle.decoder_model.proofs.DrawnPictures.{FieldsDraw}
-use Rattle.set_coder.proofs.Drawing.{field_drawn}
-use Rattle.set_coder.proofs.FieldLaws.{same_fields}
+use Rattle.picture_fields.proofs.Drawing.{field_drawn}
+use Rattle.picture_fields.proofs.FieldLaws.{same_fields}
 
 -- the sub-blocks of two blocks, and that they draw a picture
 pub record ObjectDraws (picture : Picture) (region : Depth) (top bottom : List ℕ) : Type 0 where

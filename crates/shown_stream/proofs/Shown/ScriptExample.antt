@@ -10,7 +10,7 @@ use Rattle.cue_list.specs.Authored.{authored_at, latest_row}
 use Rattle.cue_list.specs.Sound.{IsSoundScript, IsEpoch, IsTick, IsRegion, AreSeparate, IsColourRow, IsCue, Follows, AreTicksApart}
 use Rattle.cue_list.specs.declared.epoch.Cue.{Cue}
 use Rattle.cue_list.specs.declared.epoch.Epoch.{Epoch}
-use Rattle.cue_list.specs.declared.epoch.Region.{Region}
+use Rattle.cue_records.specs.declared.region.Region.{Region}
 use Rattle.cue_list.specs.declared.script.Script.{Script}
 use Rattle.page_epoch.proofs.ListLaws.{All-one}
 

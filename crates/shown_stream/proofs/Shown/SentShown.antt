@@ -13,7 +13,7 @@ use Rattle.std.proofs.lemmas.Option.{slice_get_within}
 use Rattle.sub_base.specs.Profile.{profile_of}
 use Rattle.sub_base.specs.declared.profile.Profile.{Profile}
 use Rattle.cue_list.specs.Sound.{IsSoundScript, IsTick}
-use Rattle.cue_list.specs.declared.limits.TheConstants.{LATEST_ORIGIN}
+use Rattle.cue_records.specs.declared.limits.TheConstants.{LATEST_ORIGIN}
 use Rattle.cue_list.specs.declared.script.Script.{Script}
 use Rattle.page_epoch.specs.Plan.{IsPlan}
 use Rattle.page_epoch.specs.declared.planned_set.PlannedSet.{PlannedSet}

@@ -1,5 +1,5 @@
 use Rattle.std.proofs.Common.{◌≡◌, ◌∙◌, ℕ, ◌+◌, ◌≤◌, List, [], ◌∷◌, ◌++◌, Some, ap, subst, arith}
-use Rattle.cue_list.specs.declared.limits.TheConstants.{LONGEST_SCRIPT}
+use Rattle.cue_records.specs.declared.limits.TheConstants.{LONGEST_SCRIPT}
 use Rattle.decoder_model.specs.Frames.{only}
 use Rattle.decoder_model.specs.declared.pages.Pages.{Pages}
 use Rattle.dump_text.specs.DumpText.{IsDumpText, asked_for}

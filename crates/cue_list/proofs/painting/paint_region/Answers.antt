@@ -1,6 +1,6 @@
 use Rattle.std.proofs.Common.{◌≡◌, ◌∙◌, true, false, List, [], sym, subst}
 use Rattle.sub_base.specs.declared.colour.Colour.{Colour}
-use Rattle.cue_list.specs.declared.epoch.ColourRow.{ColourRow}
+use Rattle.cue_records.specs.declared.row_values.ColourRow.{ColourRow}
 use Rattle.cue_list.specs.declared.epoch.Cue.{Cue}
 use Rattle.cue_list.specs.Authored.{live_cues}
 use Rattle.cue_list.specs.Planes.{HasLive, AreEntriesBy, FillsRows}

@@ -1,5 +1,5 @@
 use Rattle.sub_base.specs.declared.depth.Depth.TheVariants.{Two}
-use Rattle.cue_list.specs.declared.epoch.Region.{Region}
+use Rattle.cue_records.specs.declared.region.Region.{Region}
 use Rattle.cue_list.proofs.SceneLaws.{ShowsRegions-more}
 use Rattle.cue_list.proofs.painting.paint_regions.Goals as goal
 

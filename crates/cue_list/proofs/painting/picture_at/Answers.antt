@@ -1,7 +1,7 @@
 use Rattle.std.proofs.Common.{◌≡◌, ◌∙◌, ◌+◌, ◌*◌, List, Option, Some, None, sym, ap, subst, arith}
 use Rattle.sub_base.specs.Colour.{clear}
 use Rattle.cue_list.specs.declared.epoch.Epoch.{Epoch}
-use Rattle.cue_list.specs.declared.epoch.Region.{Region}
+use Rattle.cue_records.specs.declared.region.Region.{Region}
 use Rattle.cue_list.specs.Authored.{authored_at, colour_in_epoch, epoch_at}
 use Rattle.cue_list.specs.Planes.{ArePaintable, ShowsRegions}
 use Rattle.cue_list.proofs.PlaneRows.{plane_is}

@@ -2,16 +2,17 @@ use Rattle.std.proofs.Common.{◌≡◌, ◌∙◌, ◌+◌, ℕ, sym, ap, subst
 use Rattle.csv.specs.Records.{fields_of}
 use Rattle.cue_list.specs.declared.fault.ScriptFault.{ScriptFault}
 use Rattle.cue_list.specs.declared.fault.ScriptFault.TheVariants.{Refused}
-use Rattle.cue_list.specs.declared.fault.ScriptKind.{ScriptKind}
-use Rattle.cue_list.specs.declared.fault.ScriptKind.TheVariants.{Order}
+use Rattle.cue_records.specs.declared.fault.ScriptKind.{ScriptKind}
+use Rattle.cue_records.specs.declared.fault.ScriptKind.TheVariants.{Order}
 use Rattle.cue_list.specs.declared.reader.Reader.{Reader}
-use Rattle.cue_list.specs.declared.row_fault.RowFault.{RowFault}
+use Rattle.cue_records.specs.declared.row_fault.RowFault.{RowFault}
 use Rattle.cue_list.specs.Private.HasRead.{HasRead}
-use Rattle.cue_list.specs.Records.{record_of}
+use Rattle.cue_records.specs.Records.{record_of}
 use Rattle.cue_list.specs.RowFaults.{fault_with}
-use Rattle.cue_list.specs.Rows.{Row, rows_left, unread}
+use Rattle.cue_records.specs.Rows.{Row, rows_left, unread}
 use Rattle.cue_list.specs.ScriptRows.{IsScriptFault}
-use Rattle.cue_list.specs.Private.State.{past_of, IsRowFault}
+use Rattle.cue_list.specs.Private.State.{past_of}
+use Rattle.cue_records.specs.CellFaults.{IsRowFault}
 use Rattle.cue_list.proofs.ReadLaws.{HasRead-first, HasRead-next, IsRefused-row, IsRefused-whole, IfErr-follows, length-records, few-rows}
 use Rattle.cue_list.proofs.read.read_records.Goals as goal
 

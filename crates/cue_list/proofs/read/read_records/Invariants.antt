@@ -1,6 +1,6 @@
 use Rattle.std.proofs.Common.{length}
 use Rattle.cue_list.specs.Private.HasRead.{HasRead}
-use Rattle.cue_list.specs.Rows.{IsReadable, rows_left, unread}
+use Rattle.cue_records.specs.Rows.{IsReadable, rows_left, unread}
 use Rattle.cue_list.proofs.read.read_records.Given as goal
 
 abbrev pub invariant-loop-reader : goal.invariant-loop-reader

@@ -1,5 +1,5 @@
 use Rattle.std.proofs.Common.{◌≡◌, ◌+◌, length}
-use Rattle.cue_list.specs.Rows.{IsReadable, rows_left, unread}
+use Rattle.cue_records.specs.Rows.{IsReadable, rows_left, unread}
 use Rattle.cue_list.proofs.single_rows.count_rows.Given as goal
 
 abbrev pub invariant-loop-row : goal.invariant-loop-row

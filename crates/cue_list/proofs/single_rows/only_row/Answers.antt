@@ -1,6 +1,6 @@
 use Rattle.std.proofs.Common.{arith}
 use Rattle.csv.specs.Records.{fields_of}
-use Rattle.cue_list.specs.Rows.{rows_left, unread}
+use Rattle.cue_records.specs.Rows.{rows_left, unread}
 use Rattle.cue_list.proofs.StandsLaws.{few-left}
 use Rattle.cue_list.proofs.single_rows.only_row.Goals as goal
 

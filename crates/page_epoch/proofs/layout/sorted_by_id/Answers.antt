@@ -1,7 +1,7 @@
 use Rattle.std.proofs.Common.{List, rules, subst}
 use Rattle.std.specs.List.Sorted.{IsPermutation}
 use Rattle.std.proofs.lemmas.List.Sorted.{IsNonDecreasingBy-from_sort_by_key}
-use Rattle.cue_list.specs.declared.epoch.Region.{Region}
+use Rattle.cue_records.specs.declared.region.Region.{Region}
 use Rattle.page_epoch.proofs.layout.sorted_by_id.Goals as goal
 
 pub returns : goal.returns

@@ -1,6 +1,6 @@
 use Rattle.std.proofs.Common.{arith, ◌≤◌, ◌+◌, inr}
 use Rattle.std.proofs.lemmas.Bool.Decides.{nat_tests}
-use Rattle.set_coder.proofs.FieldLaws.{one_sizes}
+use Rattle.picture_fields.proofs.FieldLaws.{one_sizes}
 use Rattle.set_coder.specs.declared.kept_blocks.TheConstants.{MOST_BYTES}
 use Rattle.set_coder.proofs.kept_blocks.can_be_kept.Goals as goal
 

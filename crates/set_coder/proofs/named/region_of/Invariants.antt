@@ -1,6 +1,6 @@
 use Rattle.std.proofs.Common.{◌≡◌, drop, eqb}
 use Rattle.std.specs.List.{find}
-use Rattle.cue_list.specs.declared.epoch.Region.{Region}
+use Rattle.cue_records.specs.declared.region.Region.{Region}
 use Rattle.set_coder.proofs.named.region_of.Given as goal
 
 abbrev pub invariant-loop-region : goal.invariant-loop-region

@@ -1,6 +1,6 @@
 use Rattle.std.proofs.Common.{sym, subst, List}
 use Rattle.bitmap_font.specs.Font.{FontValue}
-use Rattle.cue_list.specs.Rows.{Row}
+use Rattle.cue_records.specs.Rows.{Row}
 use Rattle.cue_list.specs.TakenRows.{StandsFor}
 use Rattle.cue_list.specs.Private.Taken.{kept_of}
 use Rattle.cue_list.specs.declared.reader.Reader.{Reader}

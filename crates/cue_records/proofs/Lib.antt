@@ -1,0 +1,6 @@
+pub mod CodesLaws
+pub mod HexLaws
+pub mod RowsLaws
+pub mod RunLaws
+pub mod TestLaws
+pub mod TextLaws

@@ -1,0 +1,10 @@
+pub mod CellFaults
+pub mod Cells
+pub mod CodeFaults
+pub mod Codes
+pub mod KindNames
+pub mod PixelRuns
+pub mod Records
+pub mod Regions
+pub mod RowValues
+pub mod Rows

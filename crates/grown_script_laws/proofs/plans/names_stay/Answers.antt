@@ -1,0 +1,5 @@
+use Rattle.grown_script_laws.proofs.GrownRows as own
+use Rattle.grown_script_laws.proofs.plans.names_stay.Goals as goal
+
+pub returns : goal.returns
+returns c = own.names_stay

@@ -1,5 +1,0 @@
-use Rattle.page_epoch.proofs.GrownRows as own
-use Rattle.page_epoch.proofs.laws.rows_stay.Goals as goal
-
-pub returns : goal.returns
-returns c = own.rows_stay
