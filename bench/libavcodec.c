@@ -15,7 +15,7 @@
 #include <string.h>
 #include <time.h>
 
-enum { ROUNDS = 20, MOST_PICTURES = 16, MOST_SETS = 128, MOST_BYTES = 1 << 20, PAGE = 0x10, END = 0x80 };
+enum { ROUNDS = 20, MOST_PICTURES = 512, MOST_SETS = 128, MOST_BYTES = 1 << 20, PAGE = 0x10, END = 0x80 };
 
 /* A display set: its bytes, and whether its page is a mode change. */
 struct set {

@@ -39,6 +39,7 @@ for depth in 8 4 2; do
     python3 bench/text_pictures.py $font $depth 8 4096 >$script
     compile "$depth-bit-4096-sets-of-8-pictures" 4096 "$encoded"
     python3 bench/text_pictures.py $font $depth 512 512 >$script
+    encoded=$(libavcodec encode $script 512) || encoded=
     compile "$depth-bit-512-different-pictures" 512 "$encoded"
     python3 bench/text_pictures.py $font $depth 512 512 runs >$script
     compile "$depth-bit-512-different-pictures-in-runs" 512 "$encoded"
