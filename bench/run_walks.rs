@@ -6,7 +6,7 @@
 //! with all their tests, puts their codes in their places, cuts them where a row ends, and appends the strings of the two
 //! fields with the least bits (EN 300 743, 7.2.5.2). `csv`, the file, the segments and the packets are left out. Prints the microseconds a picture
 //! of the best round, and ends with status 1 where two walks differ. `plain` goes byte by byte; `words` looks at eight bytes at
-//! once; `stars` finds the `*` of 64 bytes at a time by vectors. The last two read and write unchecked, which the product does not.
+//! once; `stars` finds the `*` of 64 bytes at a time by vectors. All store unchecked, and the last two read so, which the product does not.
 use std::arch::x86_64::{_mm_cmpeq_epi8, _mm_loadu_si128, _mm_movemask_epi8, _mm_set1_epi8, _mm_storeu_si128};
 use std::time::Instant;
 
