@@ -49,7 +49,7 @@ fn one_code(depth: usize, colour: u64, length: usize) -> Option<Bits> {
     Some(Bits { bits, count })
 }
 
-/// A run of more than 56 bits, which is put in halves.
+/// The count of a run of more than 56 bits, whose bits are the length of its last code: it is put in two parts.
 const LONG: u32 = u32::MAX;
 
 /// The least bits of a run, by its colour and its length.
@@ -68,7 +68,7 @@ fn least_bits(depth: usize) -> Vec<Bits> {
             while at > 0 {
                 let (_, before, code) = least[at];
                 if bits.count + code.count > 56 {
-                    return Bits { bits: 0, count: LONG };
+                    return Bits { bits: (length - least[length].1) as u64, count: LONG };
                 }
                 bits = Bits { bits: bits.bits | code.bits << bits.count, count: bits.count + code.count };
                 at = before;
@@ -183,9 +183,9 @@ impl Picture {
     }
 
     #[cold]
-    fn put_halves(&mut self, least: &[Bits], count: usize, code: u8) {
-        self.put_in_row(least, count / 2, code);
-        self.put_in_row(least, count - count / 2, code);
+    fn put_parts(&mut self, least: &[Bits], count: usize, last: usize, code: u8) {
+        self.put_in_row(least, count - last, code);
+        self.put_in_row(least, last, code);
     }
 
     #[inline(always)]
@@ -193,7 +193,7 @@ impl Picture {
         let field = &mut self.fields[self.row & 1];
         let bits = unsafe { *least.get_unchecked(usize::from(code) * (WIDTH + 1) + count) };
         if bits.count == LONG {
-            self.put_halves(least, count, code);
+            self.put_parts(least, count, bits.bits as usize, code);
         } else {
             field.put(bits);
         }
