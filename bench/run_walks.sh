@@ -1,5 +1,5 @@
 #!/usr/bin/env bash
-# What `compile` of pictures by runs cannot be faster than: the 512 pictures of bench/text_pictures.sh, from their text of runs to
+# A part of what `compile` of pictures by runs does, by itself: the 512 pictures of bench/text_pictures.sh, from their text of runs to
 # codes and to the strings of two fields, by the three walks of bench/run_walks.rs, in microseconds a picture. Neither `csv` nor
 # segments nor packets are in these. Where libavcodec's headers are installed, the microseconds of its encoder stand beside them.
 set -e
