@@ -3,10 +3,10 @@ use dvbsub_cmd::{Status, top};
 use samples::first_run::{FIRST_UNIT, SECOND_UNIT};
 use samples::words_of;
 use std::alloc::Global;
+use std::panic::Expect;
 use std::process::Abort;
-use std::test::Fail;
 use std::thread::Threads;
-use sub_base::{MemSink, MemSource, NoGate};
+use sub_base::{MemSink, MemSource, NoGate, NoMemory};
 
 /// A font of the letter H, 10 by 20 pixels in a box of 12 by 24.
 const LETTER_FONT: &str =
@@ -62,16 +62,16 @@ pub(crate) struct Outcome {
 }
 
 /// Runs the command over the script and the font.
-pub(crate) fn run<R: Threads + Sync>(
+pub(crate) fn run<R: Threads + Sync + Abort>(
     rt: &R,
     alloc: Global,
     line: &str,
     script: &str,
     font: &str,
-) -> Result<Outcome, Fail> {
-    let words = words_of(alloc, line)?;
-    let text = Vec::from_slice(alloc, script.as_bytes())?;
-    let letters = Vec::from_slice(alloc, font.as_bytes())?;
+) -> Outcome {
+    let words = words_of(alloc, line).expect(rt, "memory");
+    let text = Vec::from_slice(alloc, script.as_bytes()).expect(rt, "memory");
+    let letters = Vec::from_slice(alloc, font.as_bytes()).expect(rt, "memory");
     let mut first = MemSource::make(alloc, text, 4_096, Vec::new(alloc));
     let mut second = MemSource::make(alloc, letters, 4_096, Vec::new(alloc));
     let mut out = MemSink::make(alloc, 65_536, Vec::new(alloc));
@@ -86,7 +86,7 @@ pub(crate) fn run<R: Threads + Sync>(
         &mut notes,
         &NoGate,
     );
-    Ok(Outcome { status, out, notes })
+    Outcome { status, out, notes }
 }
 
 /// The numbers of the first and the last packet of the PID 256, and how many there are.
@@ -108,19 +108,18 @@ fn packets_of_256(stream: &[u8]) -> (usize, usize, usize) {
 /// A script with its font is compiled in each profile: 28 packets as early as five seconds before
 /// the cue, and one for its end.
 #[test]
-fn sixty_letters_in_each_profile(rt: HostRuntime) -> Result<(), Fail> {
+fn sixty_letters_in_each_profile(rt: HostRuntime) {
     let cases = [
         ("compile sd 256 1 script.csv font.bdf out.ts", 639, 1_149),
         ("compile hd 256 1 script.csv font.bdf out.ts", 1_250, 2_250),
     ];
     for (line, first, last) in cases {
-        let done = run(&rt, rt.alloc(), line, SIXTY_LETTERS, LETTER_FONT)?;
+        let done = run(&rt, rt.alloc(), line, SIXTY_LETTERS, LETTER_FONT);
         same(&rt, done.status, Status::Done { cut: 0 });
         same(&rt, done.notes.written(), b"done\n".as_slice());
         assert_eq!(rt; done.out.written().len(), 188 * (last + 1));
         same(&rt, packets_of_256(done.out.written()), (first, last, 29));
     }
-    Ok(())
 }
 
 /// The last bytes of the packet with that number, but with another presentation time in the unit.
@@ -143,8 +142,8 @@ pub(crate) const COMPILE: &str = "compile sd 256 1 script.csv none out.ts";
 /// The second epoch has the units of the first, but for their times and the versions of their
 /// pages, which are 2 and 3: the highest four bits of the byte behind the time-out.
 #[test]
-fn epochs_follow_each_other(rt: HostRuntime) -> Result<(), Fail> {
-    let done = run(&rt, rt.alloc(), COMPILE, TWO_EPOCHS, "")?;
+fn epochs_follow_each_other(rt: HostRuntime) {
+    let done = run(&rt, rt.alloc(), COMPILE, TWO_EPOCHS, "");
     same(&rt, done.status, Status::Done { cut: 0 });
     let stream = done.out.written();
     assert_eq!(rt; stream.len(), 4 * 188);
@@ -155,30 +154,28 @@ fn epochs_follow_each_other(rt: HostRuntime) -> Result<(), Fail> {
     fourth[23] = 0x33;
     assert!(rt; ends_with(stream, 2, &third, [0x21, 0x00, 0x11, 0x3D, 0x61]));
     assert!(rt; ends_with(stream, 3, &fourth, [0x21, 0x00, 0x15, 0xFC, 0x81]));
-    Ok(())
 }
 
 /// Nine sets: the start, a refresh each five seconds, and the end.
 #[test]
-fn long_cues_are_refreshed(rt: HostRuntime) -> Result<(), Fail> {
-    let done = run(&rt, rt.alloc(), COMPILE, FORTY_SECONDS, "")?;
+fn long_cues_are_refreshed(rt: HostRuntime) {
+    let done = run(&rt, rt.alloc(), COMPILE, FORTY_SECONDS, "");
     same(&rt, done.status, Status::Done { cut: 0 });
     assert_eq!(rt; done.out.written().len(), 4_597 * 188);
     same(&rt, packets_of_256(done.out.written()), (0, 4_596, 9));
-    Ok(())
 }
 
 /// The times of the packets are those of the script modulo 2^33.
 #[test]
-fn programmes_pass_33_bits(rt: HostRuntime) -> Result<(), Fail> {
-    let done = run(&rt, rt.alloc(), COMPILE, BEHIND_THE_WRAP, "")?;
+fn programmes_pass_33_bits(rt: HostRuntime) {
+    let done = run(&rt, rt.alloc(), COMPILE, BEHIND_THE_WRAP, "");
     same(&rt, done.status, Status::Done { cut: 0 });
     let stream = done.out.written();
     assert_eq!(rt; stream.len(), 2 * 188);
     assert!(rt; ends_with(stream, 0, &FIRST_UNIT, [0x21, 0x00, 0x01, 0x00, 0x01]));
     assert!(rt; ends_with(stream, 1, &SECOND_UNIT, [0x21, 0x00, 0x05, 0xBF, 0x21]));
     let line = "expect script.csv none out.txt 8589934591 8589934592 8590024592";
-    let shown = run(&rt, rt.alloc(), line, BEHIND_THE_WRAP, "")?;
+    let shown = run(&rt, rt.alloc(), line, BEHIND_THE_WRAP, "");
     same(
         &rt,
         shown.out.written(),
@@ -189,7 +186,6 @@ fn programmes_pass_33_bits(rt: HostRuntime) -> Result<(), Fail> {
           picture 8590024592 clear\n"
             .as_slice(),
     );
-    Ok(())
 }
 
 /// The second picture lets code 1 be seen through.
@@ -204,9 +200,9 @@ pub(crate) const SEE_THROUGH: &str = "origin,0\n\
      place,135000,270000,0,0,0,through,b\n";
 
 #[test]
-fn authored_pictures(rt: HostRuntime) -> Result<(), Fail> {
+fn authored_pictures(rt: HostRuntime) {
     let line = "expect script.csv none out.txt 90000 135000 270000";
-    let shown = run(&rt, rt.alloc(), line, SEE_THROUGH, "")?;
+    let shown = run(&rt, rt.alloc(), line, SEE_THROUGH, "");
     same(&rt, shown.status, Status::Done { cut: 0 });
     same(
         &rt,
@@ -219,13 +215,12 @@ fn authored_pictures(rt: HostRuntime) -> Result<(), Fail> {
             .as_slice(),
     );
     let line = "expect script.csv none out.txt 90000 180000";
-    let shown = run(&rt, rt.alloc(), line, TWO_EPOCHS, "")?;
+    let shown = run(&rt, rt.alloc(), line, TWO_EPOCHS, "");
     same(
         &rt,
         shown.out.written(),
         b"picture 90000 4 2\n1*51F05AC0 3*912236C0\n4*D29210C0\npicture 180000 clear\n".as_slice(),
     );
-    Ok(())
 }
 
 /// A font of the letter H, two by two pixels.
@@ -254,9 +249,9 @@ const TEXTS: &str = "origin,0\n\
 
 /// The letters of both epochs, in their ink on their background.
 #[test]
-fn authored_texts(rt: HostRuntime) -> Result<(), Fail> {
+fn authored_texts(rt: HostRuntime) {
     let line = "expect script.csv font.bdf out.txt 90000 180000 270000";
-    let shown = run(&rt, rt.alloc(), line, TEXTS, SMALL_FONT)?;
+    let shown = run(&rt, rt.alloc(), line, TEXTS, SMALL_FONT);
     same(&rt, shown.status, Status::Done { cut: 0 });
     same(
         &rt,
@@ -270,12 +265,11 @@ fn authored_texts(rt: HostRuntime) -> Result<(), Fail> {
           4*D29210C0\n"
             .as_slice(),
     );
-    Ok(())
 }
 
 /// A script of two epochs with pictures, a colour and refreshes, and, where there is a font, a
 /// text.
-fn mixed_script(alloc: Global, has_font: bool) -> Result<String, Fail> {
+fn mixed_script(alloc: Global, has_font: bool) -> Result<String, NoMemory> {
     let mut script = String::from_str(
         alloc,
         "origin,450000\n\
@@ -303,7 +297,7 @@ fn mixed_script(alloc: Global, has_font: bool) -> Result<String, Fail> {
 /// from five seconds before its time on. The second is the end of the text, and where there is no
 /// font a refresh; in the pause before the second epoch none is sent.
 #[test]
-fn mixed_scripts_in_each_profile(rt: HostRuntime) -> Result<(), Fail> {
+fn mixed_scripts_in_each_profile(rt: HostRuntime) {
     let alloc = rt.alloc();
     let cases = [
         ("sd", [0, 639, 1_277, 2_554, 3_192]),
@@ -312,23 +306,26 @@ fn mixed_scripts_in_each_profile(rt: HostRuntime) -> Result<(), Fail> {
     ];
     for (profile, slots) in cases {
         for (font, text) in [("none", ""), ("font.bdf", LETTER_FONT)] {
-            let line = format!(in alloc; "compile {profile} 256 1 script.csv {font} out.ts")?;
-            let script = mixed_script(alloc, font != "none")?;
-            let done = run(&rt, alloc, &line, &script, text)?;
+            let line = format!(in alloc; "compile {profile} 256 1 script.csv {font} out.ts").expect(
+                &rt, "memory",
+            );
+            let script = mixed_script(alloc, font != "none").expect(&rt, "memory");
+            let done = run(&rt, alloc, &line, &script, text);
             same(&rt, done.status, Status::Done { cut: 0 });
             same(&rt, done.notes.written(), b"done\n".as_slice());
             same(
                 &rt,
-                unit_starts(alloc, done.out.written())?.as_slice(),
+                unit_starts(alloc, done.out.written())
+                    .expect(&rt, "memory")
+                    .as_slice(),
                 slots.as_slice(),
             );
         }
     }
-    Ok(())
 }
 
 /// A script that sets every entry of two CLUTs at its epoch's start.
-fn script_of_colours(alloc: Global) -> Result<String, Fail> {
+fn script_of_colours(alloc: Global) -> Result<String, NoMemory> {
     let mut script = String::from_str(
         alloc,
         "origin,0\ndisplay,4,2\nrefresh,5\nepoch,900000\nregion,0,0,0,4,2,8,0\n",
@@ -346,28 +343,31 @@ fn script_of_colours(alloc: Global) -> Result<String, Fail> {
 
 /// Scripts that a plan or a schedule refuses, and the lines that say so. Nothing is written.
 #[test]
-fn plans_and_schedules_that_are_refused(rt: HostRuntime) -> Result<(), Fail> {
+fn plans_and_schedules_that_are_refused(rt: HostRuntime) {
     let early = "origin,0\ndisplay,4,2\nrefresh,5\nepoch,58\nregion,0,0,0,4,2,8,0\n";
     let wide = "origin,0\ndisplay,720,576\nrefresh,5\nepoch,900000\nregion,0,0,0,720,576,2,0\n";
-    let colours = script_of_colours(rt.alloc())?;
+    let colours = script_of_colours(rt.alloc()).expect(&rt, "memory");
     let cases = [
         (early, "schedule Late 4 59 58\n"),
         (wide, "plan PixelFull 4 103680\n"),
         (colours.as_str(), "plan CompositionFull 4 555\n"),
     ];
     for (script, note) in cases {
-        let refused = run(&rt, rt.alloc(), COMPILE, script, "")?;
+        let refused = run(&rt, rt.alloc(), COMPILE, script, "");
         same(&rt, refused.notes.written(), note.as_bytes());
         same(&rt, refused.out.written(), b"".as_slice());
         same(&rt, refused.status.code(), 3);
     }
-    Ok(())
 }
 
 /// A script of full high definition that shows a picture of that height at each of these columns.
 /// The picture's two codes change from pixel to pixel, so that each of its rows of 196 pixels has
 /// 200 bytes.
-fn script_of_large_pictures(alloc: Global, height: u16, columns: &[u16]) -> Result<String, Fail> {
+fn script_of_large_pictures(
+    alloc: Global,
+    height: u16,
+    columns: &[u16],
+) -> Result<String, NoMemory> {
     let mut script = String::from_str(
         alloc,
         "origin,0\ndisplay,1920,1080\nrefresh,5\nepoch,500000\nregion,0,0,0,1920,1080,8,0\n",
@@ -386,7 +386,7 @@ fn script_of_large_pictures(alloc: Global, height: u16, columns: &[u16]) -> Resu
 }
 
 /// The slots of the packets of a stream with which units of the PID 256 start.
-fn unit_starts(alloc: Global, packets: &[u8]) -> Result<Vec<usize>, Fail> {
+fn unit_starts(alloc: Global, packets: &[u8]) -> Result<Vec<usize>, NoMemory> {
     let mut starts = Vec::new(alloc);
     for slot in 0..packets.len() / 188 {
         if packets[slot * 188 + 1] == 0x41 {
@@ -399,21 +399,23 @@ fn unit_starts(alloc: Global, packets: &[u8]) -> Result<Vec<usize>, Fail> {
 /// Three objects of 60,014 bytes are sent in three PES packets of 327 packets each, and one of
 /// 65,614 bytes in none.
 #[test]
-fn sets_of_several_packets(rt: HostRuntime) -> Result<(), Fail> {
+fn sets_of_several_packets(rt: HostRuntime) {
     let alloc = rt.alloc();
     let line = "compile large 256 1 script.csv none out.ts";
-    let script = script_of_large_pictures(alloc, 300, &[0, 200, 400])?;
-    let sent = run(&rt, alloc, line, &script, "")?;
+    let script = script_of_large_pictures(alloc, 300, &[0, 200, 400]).expect(&rt, "memory");
+    let sent = run(&rt, alloc, line, &script, "");
     same(&rt, sent.status, Status::Done { cut: 0 });
     assert_eq!(rt; sent.out.written().len(), 5_001 * 188);
     same(
         &rt,
-        unit_starts(alloc, sent.out.written())?.as_slice(),
+        unit_starts(alloc, sent.out.written())
+            .expect(&rt, "memory")
+            .as_slice(),
         [556, 883, 1_210, 5_000].as_slice(),
     );
 
-    let script = script_of_large_pictures(alloc, 328, &[0])?;
-    let refused = run(&rt, alloc, line, &script, "")?;
+    let script = script_of_large_pictures(alloc, 328, &[0]).expect(&rt, "memory");
+    let refused = run(&rt, alloc, line, &script, "");
     same(
         &rt,
         refused.notes.written(),
@@ -421,5 +423,4 @@ fn sets_of_several_packets(rt: HostRuntime) -> Result<(), Fail> {
     );
     same(&rt, refused.out.written(), b"".as_slice());
     same(&rt, refused.status.code(), 3);
-    Ok(())
 }

@@ -4,8 +4,9 @@ use crate::same::same;
 use pes_packets::read_pes;
 use segments::{Segment, State, read_segment};
 use std::alloc::Global;
+use std::panic::Expect;
 use std::process::Abort;
-use std::test::Fail;
+use sub_base::NoMemory;
 
 /// Three cues of one region: the second and the third join, and stay as the first one ends.
 const JOINED: &str = "origin,0\n\
@@ -31,16 +32,13 @@ const PAUSED: &str = "origin,0\n\
      place,90000,675000,1,0,0,solid,a\n";
 
 /// What stands in a transport packet behind its head and its adaptation field.
-fn payload_of(packet: &[u8; 188]) -> Result<&[u8], Fail> {
+fn payload_of(packet: &[u8; 188]) -> &[u8] {
     let start = if packet[3] / 32 % 2 == 1 {
         5 + packet[4] as usize
     } else {
         4
     };
-    if start > 188 {
-        return Err(Fail::from("no payload"));
-    }
-    Ok(&packet[start..])
+    packet.get(start..).unwrap_or(&[])
 }
 
 fn name_of(state: State) -> &'static str {
@@ -53,9 +51,9 @@ fn name_of(state: State) -> &'static str {
 
 /// The time and the state of a set, and the regions that it sends: version, fill, and the objects
 /// that are listed.
-fn set_text(alloc: Global, unit: &[u8], with_regions: bool) -> Result<String, Fail> {
-    let pes = read_pes(unit)?;
-    let mut text = format!(in alloc; "{}", pes.pts)?;
+fn set_text<R: Abort>(rt: &R, alloc: Global, unit: &[u8], with_regions: bool) -> String {
+    let pes = read_pes(unit).expect(rt, "a PES packet");
+    let mut text = format!(in alloc; "{}", pes.pts).expect(rt, "memory");
     let mut rest = pes.segments;
     for _ in 0..16 {
         let Ok((segment, size)) = read_segment(rest) else {
@@ -64,11 +62,11 @@ fn set_text(alloc: Global, unit: &[u8], with_regions: bool) -> Result<String, Fa
         if size > rest.len() {
             break;
         }
-        put_segment(alloc, segment, with_regions, &mut text)?;
+        put_segment(alloc, segment, with_regions, &mut text).expect(rt, "memory");
         rest = &rest[size..];
     }
-    text.push_str("\n")?;
-    Ok(text)
+    text.push_str("\n").expect(rt, "memory");
+    text
 }
 
 fn put_segment(
@@ -76,7 +74,7 @@ fn put_segment(
     segment: Segment<'_>,
     with_regions: bool,
     text: &mut String,
-) -> Result<(), Fail> {
+) -> Result<(), NoMemory> {
     match segment {
         Segment::Page(page) => {
             text.push_str(" ")?;
@@ -100,23 +98,23 @@ fn put_segment(
 }
 
 /// The sets of a stream, each of which one packet of the PID 256 carries.
-fn sets_of(alloc: Global, stream: &[u8], with_regions: bool) -> Result<String, Fail> {
+fn sets_of<R: Abort>(rt: &R, alloc: Global, stream: &[u8], with_regions: bool) -> String {
     let (packets, _) = stream.as_chunks::<188>();
     let mut text = String::new(alloc);
     for packet in packets {
         if packet[1] % 32 == 1 && packet[2] == 0 {
-            let set = set_text(alloc, payload_of(packet)?, with_regions)?;
-            text.push_str(&set)?;
+            let set = set_text(rt, alloc, payload_of(packet), with_regions);
+            text.push_str(&set).expect(rt, "memory");
         }
     }
-    Ok(text)
+    text
 }
 
 /// A cue that is seen through is put on what stands, and is sent alone.
 #[test]
-fn a_later_cue_is_sent_alone(rt: HostRuntime) -> Result<(), Fail> {
-    let done = run(&rt, rt.alloc(), COMPILE, SEE_THROUGH, "")?;
-    let sets = sets_of(rt.alloc(), done.out.written(), true)?;
+fn a_later_cue_is_sent_alone(rt: HostRuntime) {
+    let done = run(&rt, rt.alloc(), COMPILE, SEE_THROUGH, "");
+    let sets = sets_of(&rt, rt.alloc(), done.out.written(), true);
     same(
         &rt,
         sets.as_str(),
@@ -124,14 +122,13 @@ fn a_later_cue_is_sent_alone(rt: HostRuntime) -> Result<(), Fail> {
          135000 normal; region 0 version 1 1\n\
          270000 normal\n",
     );
-    Ok(())
 }
 
 /// Cues that join are sent alone; as one ends, those that stay are sent again behind a fill.
 #[test]
-fn cues_join_and_leave(rt: HostRuntime) -> Result<(), Fail> {
-    let done = run(&rt, rt.alloc(), COMPILE, JOINED, "")?;
-    let sets = sets_of(rt.alloc(), done.out.written(), true)?;
+fn cues_join_and_leave(rt: HostRuntime) {
+    let done = run(&rt, rt.alloc(), COMPILE, JOINED, "");
+    let sets = sets_of(&rt, rt.alloc(), done.out.written(), true);
     same(
         &rt,
         sets.as_str(),
@@ -141,14 +138,13 @@ fn cues_join_and_leave(rt: HostRuntime) -> Result<(), Fail> {
          360000 normal; region 0 version 3 fill 1 2\n\
          450000 normal\n",
     );
-    Ok(())
 }
 
 /// A set where an acquisition point is due is one, and a region that was empty is filled.
 #[test]
-fn acquisition_points_of_two_regions(rt: HostRuntime) -> Result<(), Fail> {
-    let done = run(&rt, rt.alloc(), COMPILE, PAUSED, "")?;
-    let states = sets_of(rt.alloc(), done.out.written(), false)?;
+fn acquisition_points_of_two_regions(rt: HostRuntime) {
+    let done = run(&rt, rt.alloc(), COMPILE, PAUSED, "");
+    let states = sets_of(&rt, rt.alloc(), done.out.written(), false);
     same(
         &rt,
         states.as_str(),
@@ -159,13 +155,12 @@ fn acquisition_points_of_two_regions(rt: HostRuntime) -> Result<(), Fail> {
          585000 acquisition\n\
          675000 normal\n",
     );
-    let sets = sets_of(rt.alloc(), done.out.written(), true)?;
+    let sets = sets_of(&rt, rt.alloc(), done.out.written(), true);
     same(
         &rt,
         line_at(sets.as_str(), 3),
         Some("495000 normal; region 0 version 1 fill 1"),
     );
-    Ok(())
 }
 
 /// The line at a place, counted from 0.
@@ -179,7 +174,7 @@ pub(crate) fn start_of(place: u64) -> u64 {
 }
 
 /// A script of seventeen cues, one after another.
-pub(crate) fn seventeen_cues(alloc: Global) -> Result<String, Fail> {
+pub(crate) fn seventeen_cues(alloc: Global) -> Result<String, NoMemory> {
     let mut script = String::from_str(
         alloc,
         "origin,0\n\
@@ -198,10 +193,10 @@ pub(crate) fn seventeen_cues(alloc: Global) -> Result<String, Fail> {
 
 /// The version goes from 15 to 0, and each fifth second has an acquisition point.
 #[test]
-fn versions_go_round(rt: HostRuntime) -> Result<(), Fail> {
+fn versions_go_round(rt: HostRuntime) {
     let alloc = rt.alloc();
-    let script = seventeen_cues(alloc)?;
-    let done = run(&rt, alloc, COMPILE, script.as_str(), "")?;
+    let script = seventeen_cues(alloc).expect(&rt, "memory");
+    let done = run(&rt, alloc, COMPILE, script.as_str(), "");
     let mut expected = String::new(alloc);
     for k in 0..17u64 {
         let state = if k == 0 {
@@ -215,21 +210,21 @@ fn versions_go_round(rt: HostRuntime) -> Result<(), Fail> {
             "{} {state}; region 0 version {} fill {k}\n",
             start_of(k),
             k % 16
-        )?;
-        expected.push_str(&line)?;
+        )
+        .expect(&rt, "memory");
+        expected.push_str(&line).expect(&rt, "memory");
     }
-    expected.push_str("1620000 normal\n")?;
-    let sets = sets_of(alloc, done.out.written(), true)?;
+    expected.push_str("1620000 normal\n").expect(&rt, "memory");
+    let sets = sets_of(&rt, alloc, done.out.written(), true);
     same(&rt, sets.as_str(), expected.as_str());
-    Ok(())
 }
 
 /// A cue of forty seconds has seven acquisition points, each with the whole page again. Its end is
 /// the eighth.
 #[test]
-fn a_long_cue_is_sent_again(rt: HostRuntime) -> Result<(), Fail> {
-    let done = run(&rt, rt.alloc(), COMPILE, FORTY_SECONDS, "")?;
-    let states = sets_of(rt.alloc(), done.out.written(), false)?;
+fn a_long_cue_is_sent_again(rt: HostRuntime) {
+    let done = run(&rt, rt.alloc(), COMPILE, FORTY_SECONDS, "");
+    let states = sets_of(&rt, rt.alloc(), done.out.written(), false);
     same(
         &rt,
         states.as_str(),
@@ -243,5 +238,4 @@ fn a_long_cue_is_sent_again(rt: HostRuntime) -> Result<(), Fail> {
          3240000 acquisition\n\
          3690000 acquisition\n",
     );
-    Ok(())
 }

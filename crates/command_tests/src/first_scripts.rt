@@ -6,8 +6,8 @@ use samples::first_run::{COMPILE, FIRST_UNIT, SCRIPT, SECOND_UNIT};
 use samples::words_of;
 use schedule::ScheduleFault;
 use std::alloc::Global;
+use std::panic::Expect;
 use std::process::Abort;
-use std::test::Fail;
 use std::thread::Threads;
 use sub_base::{MemSink, MemSource, NoGate};
 
@@ -41,21 +41,34 @@ const SCRIPT_TOO_DEEP: &str = "origin,0\n\
 /// Runs the command over the script and the font. The script's source fails at the read with the
 /// number `bad_read`, the output at the write with the number `bad_write`, and the notes at the
 /// write with the number `bad_note`.
-fn run_failing<R: Threads + Sync>(
+fn run_failing<R: Threads + Sync + Abort>(
     rt: &R,
     alloc: Global,
     line: &str,
     [script, font]: [&str; 2],
     fails: [u64; 3],
-) -> Result<Outcome, Fail> {
-    let words = words_of(alloc, line)?;
+) -> Outcome {
+    let words = words_of(alloc, line).expect(rt, "memory");
     let [bad_read, bad_write, bad_note] = fails;
-    let text = Vec::from_slice(alloc, script.as_bytes())?;
-    let mut first = MemSource::make(alloc, text, 7, vec![in alloc; bad_read]?);
-    let letters = Vec::from_slice(alloc, font.as_bytes())?;
-    let mut second = MemSource::make(alloc, letters, 1, vec![in alloc; 0u64]?);
-    let mut out = MemSink::make(alloc, 1_000_000, vec![in alloc; bad_write]?);
-    let mut notes = MemSink::make(alloc, 1_000_000, vec![in alloc; bad_note]?);
+    let text = Vec::from_slice(alloc, script.as_bytes()).expect(rt, "memory");
+    let mut first = MemSource::make(
+        alloc,
+        text,
+        7,
+        vec![in alloc; bad_read].expect(rt, "memory"),
+    );
+    let letters = Vec::from_slice(alloc, font.as_bytes()).expect(rt, "memory");
+    let mut second = MemSource::make(alloc, letters, 1, vec![in alloc; 0u64].expect(rt, "memory"));
+    let mut out = MemSink::make(
+        alloc,
+        1_000_000,
+        vec![in alloc; bad_write].expect(rt, "memory"),
+    );
+    let mut notes = MemSink::make(
+        alloc,
+        1_000_000,
+        vec![in alloc; bad_note].expect(rt, "memory"),
+    );
     let status = top(
         rt,
         alloc,
@@ -66,21 +79,16 @@ fn run_failing<R: Threads + Sync>(
         &mut notes,
         &NoGate,
     );
-    Ok(Outcome { status, out, notes })
+    Outcome { status, out, notes }
 }
 
-fn run<R: Threads + Sync>(
-    rt: &R,
-    alloc: Global,
-    line: &str,
-    script: &str,
-) -> Result<Outcome, Fail> {
+fn run<R: Threads + Sync + Abort>(rt: &R, alloc: Global, line: &str, script: &str) -> Outcome {
     run_failing(rt, alloc, line, [script, ""], [0, 0, 0])
 }
 
 #[test]
-fn one_cue_becomes_two_packets(rt: HostRuntime) -> Result<(), Fail> {
-    let done = run(&rt, rt.alloc(), COMPILE, SCRIPT)?;
+fn one_cue_becomes_two_packets(rt: HostRuntime) {
+    let done = run(&rt, rt.alloc(), COMPILE, SCRIPT);
     same(&rt, done.status, Status::Done { cut: 0 });
     same(&rt, done.notes.written(), b"done\n".as_slice());
     let packets = done.out.written();
@@ -99,12 +107,11 @@ fn one_cue_becomes_two_packets(rt: HostRuntime) -> Result<(), Fail> {
     );
     assert!(rt; packets[194..345].iter().all(|byte| *byte == 0xFF));
     same(&rt, &packets[345..376], SECOND_UNIT.as_slice());
-    Ok(())
 }
 
 #[test]
-fn a_set_done_a_tick_late_is_refused(rt: HostRuntime) -> Result<(), Fail> {
-    let late = run(&rt, rt.alloc(), COMPILE, SCRIPT_AT_98)?;
+fn a_set_done_a_tick_late_is_refused(rt: HostRuntime) {
+    let late = run(&rt, rt.alloc(), COMPILE, SCRIPT_AT_98);
     same(
         &rt,
         late.status,
@@ -123,14 +130,13 @@ fn a_set_done_a_tick_late_is_refused(rt: HostRuntime) -> Result<(), Fail> {
         b"schedule Late 4 99 98\n".as_slice(),
     );
     same(&rt, late.out.written(), b"".as_slice());
-    let timely = run(&rt, rt.alloc(), COMPILE, SCRIPT_AT_99)?;
+    let timely = run(&rt, rt.alloc(), COMPILE, SCRIPT_AT_99);
     same(&rt, timely.status, Status::Done { cut: 0 });
     assert_eq!(rt; timely.out.written().len(), 376);
-    Ok(())
 }
 
 #[test]
-fn other_words_are_answered_with_the_usage(rt: HostRuntime) -> Result<(), Fail> {
+fn other_words_are_answered_with_the_usage(rt: HostRuntime) {
     let lines = [
         "",
         "compile",
@@ -159,17 +165,16 @@ fn other_words_are_answered_with_the_usage(rt: HostRuntime) -> Result<(), Fail> 
         "gen 1 sd entries.txt more",
     ];
     for line in lines {
-        let refused = run(&rt, rt.alloc(), line, SCRIPT)?;
+        let refused = run(&rt, rt.alloc(), line, SCRIPT);
         same(&rt, refused.status, Status::Usage);
         same(&rt, refused.notes.written(), b"usage\n".as_slice());
         same(&rt, refused.out.written(), b"".as_slice());
     }
-    Ok(())
 }
 
 #[test]
-fn other_scripts_are_refused(rt: HostRuntime) -> Result<(), Fail> {
-    let refused = run(&rt, rt.alloc(), COMPILE, SCRIPT_TOO_DEEP)?;
+fn other_scripts_are_refused(rt: HostRuntime) {
+    let refused = run(&rt, rt.alloc(), COMPILE, SCRIPT_TOO_DEEP);
     same(
         &rt,
         refused.status,
@@ -184,23 +189,21 @@ fn other_scripts_are_refused(rt: HostRuntime) -> Result<(), Fail> {
         b"script 7 CodeRange\n".as_slice(),
     );
     same(&rt, refused.out.written(), b"".as_slice());
-    Ok(())
 }
 
 #[test]
-fn sources_and_sinks_that_fail_are_told(rt: HostRuntime) -> Result<(), Fail> {
-    let unread = run_failing(&rt, rt.alloc(), COMPILE, [SCRIPT, ""], [2, 0, 0])?;
+fn sources_and_sinks_that_fail_are_told(rt: HostRuntime) {
+    let unread = run_failing(&rt, rt.alloc(), COMPILE, [SCRIPT, ""], [2, 0, 0]);
     same(&rt, unread.status, Status::ReadFault(Which::First));
     same(&rt, unread.notes.written(), b"read first\n".as_slice());
     same(&rt, unread.out.written(), b"".as_slice());
-    let unwritten = run_failing(&rt, rt.alloc(), COMPILE, [SCRIPT, ""], [0, 1, 0])?;
+    let unwritten = run_failing(&rt, rt.alloc(), COMPILE, [SCRIPT, ""], [0, 1, 0]);
     same(&rt, unwritten.status, Status::WriteFault(Which::Out));
     same(&rt, unwritten.notes.written(), b"write out\n".as_slice());
     same(&rt, unwritten.out.written(), b"".as_slice());
-    let untold = run_failing(&rt, rt.alloc(), COMPILE, [SCRIPT, ""], [0, 0, 1])?;
+    let untold = run_failing(&rt, rt.alloc(), COMPILE, [SCRIPT, ""], [0, 0, 1]);
     same(&rt, untold.status, Status::WriteFault(Which::Notes));
     assert_eq!(rt; untold.out.written().len(), 376);
-    Ok(())
 }
 
 /// A font of one letter, which another program has drawn too.
@@ -241,36 +244,33 @@ const PICTURES_OF_TEXT: &str = "picture 90000 20 8\n\
 const EXPECT: &str = "expect script.csv font.bdf out.txt 90000 180000";
 
 #[test]
-fn a_cue_of_text_is_shown_in_its_font(rt: HostRuntime) -> Result<(), Fail> {
-    let shown = run_failing(&rt, rt.alloc(), EXPECT, [SCRIPT_OF_TEXT, FONT], [0, 0, 0])?;
+fn a_cue_of_text_is_shown_in_its_font(rt: HostRuntime) {
+    let shown = run_failing(&rt, rt.alloc(), EXPECT, [SCRIPT_OF_TEXT, FONT], [0, 0, 0]);
     same(&rt, shown.status, Status::Done { cut: 0 });
     same(&rt, shown.notes.written(), b"done\n".as_slice());
     same(&rt, shown.out.written(), PICTURES_OF_TEXT.as_bytes());
-    Ok(())
 }
 
 #[test]
-fn a_letter_that_a_font_has_not_is_refused(rt: HostRuntime) -> Result<(), Fail> {
+fn a_letter_that_a_font_has_not_is_refused(rt: HostRuntime) {
     let line = "expect script.csv none out.txt 90000";
-    let refused = run(&rt, rt.alloc(), line, SCRIPT_OF_TEXT)?;
+    let refused = run(&rt, rt.alloc(), line, SCRIPT_OF_TEXT);
     same(
         &rt,
         refused.notes.written(),
         b"script 6 Glyph 65\n".as_slice(),
     );
     same(&rt, refused.out.written(), b"".as_slice());
-    Ok(())
 }
 
 #[test]
-fn a_display_that_a_receiver_has_not_is_refused(rt: HostRuntime) -> Result<(), Fail> {
+fn a_display_that_a_receiver_has_not_is_refused(rt: HostRuntime) {
     let script = "origin,0\ndisplay,721,576\nrefresh,5\nepoch,90000\nregion,0,0,0,8,8,8,0\n";
-    let refused = run(&rt, rt.alloc(), COMPILE, script)?;
+    let refused = run(&rt, rt.alloc(), COMPILE, script);
     same(
         &rt,
         refused.notes.written(),
         b"plan DisplayTooLarge 2\n".as_slice(),
     );
     same(&rt, refused.out.written(), b"".as_slice());
-    Ok(())
 }

@@ -10,8 +10,8 @@ use samples::first_run::{
 use samples::streams::{ENCODER_UNIT, packet_of, stream_of};
 use samples::words_of;
 use std::alloc::Global;
+use std::panic::Expect;
 use std::process::Abort;
-use std::test::Fail;
 use std::thread::Threads;
 use stream_syntax::PacketFault;
 use sub_base::{MemSink, MemSource, NoGate};
@@ -68,22 +68,40 @@ const BROKEN_LINES: &str = "unit 0 pts 90000 length 32\n\
 
 /// Lists the stream, whose source gives at most `most` bytes a read and fails at the read, the
 /// write and the note of these numbers.
-fn run<R: Threads + Sync>(
+fn run<R: Threads + Sync + Abort>(
     rt: &R,
     alloc: Global,
     stream: &[u8],
     most: usize,
     fails: [u64; 3],
-) -> Result<Outcome, Fail>
+) -> Outcome
     requires { 1 ≤ most }
 {
-    let words = words_of(alloc, LIST)?;
+    let words = words_of(alloc, LIST).expect(rt, "memory");
     let [bad_read, bad_write, bad_note] = fails;
-    let bytes = Vec::from_slice(alloc, stream)?;
-    let mut first = MemSource::make(alloc, bytes, most, vec![in alloc; bad_read]?);
-    let mut second = MemSource::make(alloc, Vec::new(alloc), 1, vec![in alloc; 1u64]?);
-    let mut out = MemSink::make(alloc, 1_000_000, vec![in alloc; bad_write]?);
-    let mut notes = MemSink::make(alloc, 1_000_000, vec![in alloc; bad_note]?);
+    let bytes = Vec::from_slice(alloc, stream).expect(rt, "memory");
+    let mut first = MemSource::make(
+        alloc,
+        bytes,
+        most,
+        vec![in alloc; bad_read].expect(rt, "memory"),
+    );
+    let mut second = MemSource::make(
+        alloc,
+        Vec::new(alloc),
+        1,
+        vec![in alloc; 1u64].expect(rt, "memory"),
+    );
+    let mut out = MemSink::make(
+        alloc,
+        1_000_000,
+        vec![in alloc; bad_write].expect(rt, "memory"),
+    );
+    let mut notes = MemSink::make(
+        alloc,
+        1_000_000,
+        vec![in alloc; bad_note].expect(rt, "memory"),
+    );
     let status = top(
         rt,
         alloc,
@@ -94,7 +112,7 @@ fn run<R: Threads + Sync>(
         &mut notes,
         &NoGate,
     );
-    Ok(Outcome { status, out, notes })
+    Outcome { status, out, notes }
 }
 
 /// A stream, and how its listing ends.
@@ -107,20 +125,15 @@ struct Row<'a> {
 }
 
 /// Lists each stream, in reads of few bytes, of a packet, and of all at once.
-fn are_listed<R: Threads + Sync + Abort>(
-    rt: &R,
-    alloc: Global,
-    rows: &[Row<'_>],
-) -> Result<(), Fail> {
+fn are_listed<R: Threads + Sync + Abort>(rt: &R, alloc: Global, rows: &[Row<'_>]) {
     for row in rows {
         for most in [7, 188, 100_000] {
-            let listed = run(rt, alloc, row.stream, most, [0, 0, 0])?;
+            let listed = run(rt, alloc, row.stream, most, [0, 0, 0]);
             same(rt, listed.status, row.status);
             same(rt, listed.notes.written(), row.note.as_bytes());
             same(rt, listed.out.written(), row.text.as_bytes());
         }
     }
-    Ok(())
 }
 
 fn listing_of<'a>(stream: &'a [u8], status: Status, note: &'a str, text: &'a str) -> Row<'a> {
@@ -141,13 +154,13 @@ fn cut_with<'a>(stream: &'a [u8], text: &'a str) -> Row<'a> {
 }
 
 #[test]
-fn whole_and_cut_streams_are_listed(rt: HostRuntime) -> Result<(), Fail> {
+fn whole_and_cut_streams_are_listed(rt: HostRuntime) {
     let alloc = rt.alloc();
     let first = packet_of(&FIRST_HEAD, &FIRST_UNIT);
     let second = packet_of(&SECOND_HEAD, &SECOND_UNIT);
     let begun = [0x47; 100];
-    let whole = stream_of(alloc, first, second, &[])?;
-    let cut = stream_of(alloc, first, second, &begun)?;
+    let whole = stream_of(alloc, first, second, &[]).expect(&rt, "memory");
+    let cut = stream_of(alloc, first, second, &begun).expect(&rt, "memory");
     let encoder = packet_of(&ENCODER_HEAD, &ENCODER_UNIT);
     let rows = [
         done_with(whole.as_slice(), BOTH_LINES),
@@ -160,18 +173,25 @@ fn whole_and_cut_streams_are_listed(rt: HostRuntime) -> Result<(), Fail> {
 }
 
 #[test]
-fn losses_and_faults_are_listed(rt: HostRuntime) -> Result<(), Fail> {
+fn losses_and_faults_are_listed(rt: HostRuntime) {
     let alloc = rt.alloc();
     let first = packet_of(&FIRST_HEAD, &FIRST_UNIT);
-    let gap = stream_of(alloc, first, packet_of(&LATER_HEAD, &SECOND_UNIT), &[])?;
-    let damaged = stream_of(alloc, first, packet_of(&DAMAGED_HEAD, &SECOND_UNIT), &[])?;
-    let unsynced = stream_of(alloc, first, packet_of(&UNSYNCED_HEAD, &SECOND_UNIT), &[])?;
+    let gap = stream_of(alloc, first, packet_of(&LATER_HEAD, &SECOND_UNIT), &[]).expect(
+        &rt, "memory",
+    );
+    let damaged = stream_of(alloc, first, packet_of(&DAMAGED_HEAD, &SECOND_UNIT), &[]).expect(
+        &rt, "memory",
+    );
+    let unsynced = stream_of(alloc, first, packet_of(&UNSYNCED_HEAD, &SECOND_UNIT), &[]).expect(
+        &rt, "memory",
+    );
     let broken = stream_of(
         alloc,
         packet_of(&BROKEN_HEAD, &BROKEN_UNIT),
         packet_of(&OTHER_HEAD, &OTHER_UNIT),
         &[],
-    )?;
+    )
+    .expect(&rt, "memory");
     let refused = Status::StreamRefused {
         packet: 1,
         fault: PacketFault::NoSync,
@@ -191,21 +211,20 @@ fn losses_and_faults_are_listed(rt: HostRuntime) -> Result<(), Fail> {
 }
 
 #[test]
-fn a_stream_that_fails_is_told(rt: HostRuntime) -> Result<(), Fail> {
+fn a_stream_that_fails_is_told(rt: HostRuntime) {
     let alloc = rt.alloc();
     let first = packet_of(&FIRST_HEAD, &FIRST_UNIT);
     let second = packet_of(&SECOND_HEAD, &SECOND_UNIT);
-    let stream = stream_of(alloc, first, second, &[])?;
-    let unread = run(&rt, alloc, stream.as_slice(), 7, [40, 0, 0])?;
+    let stream = stream_of(alloc, first, second, &[]).expect(&rt, "memory");
+    let unread = run(&rt, alloc, stream.as_slice(), 7, [40, 0, 0]);
     same(&rt, unread.status, Status::ReadFault(Which::First));
     same(&rt, unread.notes.written(), b"read first\n".as_slice());
     same(&rt, unread.out.written(), FIRST_LINES.as_bytes());
-    let unwritten = run(&rt, alloc, stream.as_slice(), 7, [0, 1, 0])?;
+    let unwritten = run(&rt, alloc, stream.as_slice(), 7, [0, 1, 0]);
     same(&rt, unwritten.status, Status::WriteFault(Which::Out));
     same(&rt, unwritten.notes.written(), b"write out\n".as_slice());
     same(&rt, unwritten.out.written(), b"".as_slice());
-    let untold = run(&rt, alloc, stream.as_slice(), 7, [0, 0, 1])?;
+    let untold = run(&rt, alloc, stream.as_slice(), 7, [0, 0, 1]);
     same(&rt, untold.status, Status::WriteFault(Which::Notes));
     same(&rt, untold.out.written(), BOTH_LINES.as_bytes());
-    Ok(())
 }

@@ -10,9 +10,9 @@ use samples::first_run::{
 use samples::streams::{ENCODER_UNIT, packet_of, stream_of};
 use samples::words_of;
 use std::alloc::Global;
+use std::panic::Expect;
 use std::process::Abort;
 use std::sync::atomic::{AtomicBool, AtomicU32, Ordering};
-use std::test::Fail;
 use std::thread::Threads;
 use stream_syntax::PacketFault;
 use sub_base::{BandGate, MemSink, MemSource, NoGate, NoMemory};
@@ -92,7 +92,7 @@ const NO_DUMPS: [&str; 10] = [
 /// Carries out a command over a stream, whose source gives at most `most` bytes a read. The source
 /// fails at the read with the number `bad_read`, and the output at the write with the number
 /// `bad_write`, which are counted from 1.
-pub(crate) fn run_over<R: Threads + Sync, G: BandGate + Sync>(
+pub(crate) fn run_over<R: Threads + Sync + Abort, G: BandGate + Sync>(
     rt: &R,
     alloc: Global,
     line: &str,
@@ -100,15 +100,29 @@ pub(crate) fn run_over<R: Threads + Sync, G: BandGate + Sync>(
     most: usize,
     fails: [u64; 2],
     gate: &G,
-) -> Result<Outcome, Fail>
+) -> Outcome
     requires { 1 ≤ most }
 {
-    let words = words_of(alloc, line)?;
+    let words = words_of(alloc, line).expect(rt, "memory");
     let [bad_read, bad_write] = fails;
-    let bytes = Vec::from_slice(alloc, stream)?;
-    let mut first = MemSource::make(alloc, bytes, most, vec![in alloc; bad_read]?);
-    let mut second = MemSource::make(alloc, Vec::new(alloc), 1, vec![in alloc; 1u64]?);
-    let mut out = MemSink::make(alloc, 1_000_000, vec![in alloc; bad_write]?);
+    let bytes = Vec::from_slice(alloc, stream).expect(rt, "memory");
+    let mut first = MemSource::make(
+        alloc,
+        bytes,
+        most,
+        vec![in alloc; bad_read].expect(rt, "memory"),
+    );
+    let mut second = MemSource::make(
+        alloc,
+        Vec::new(alloc),
+        1,
+        vec![in alloc; 1u64].expect(rt, "memory"),
+    );
+    let mut out = MemSink::make(
+        alloc,
+        1_000_000,
+        vec![in alloc; bad_write].expect(rt, "memory"),
+    );
     let mut notes = MemSink::make(alloc, 1_000_000, Vec::new(alloc));
     let status = top(
         rt,
@@ -120,7 +134,7 @@ pub(crate) fn run_over<R: Threads + Sync, G: BandGate + Sync>(
         &mut notes,
         gate,
     );
-    Ok(Outcome { status, out, notes })
+    Outcome { status, out, notes }
 }
 
 /// A command over a stream, and how it ends.
@@ -134,33 +148,22 @@ pub(crate) struct Row<'a> {
 }
 
 /// Carries out a command, with reads of at most so many bytes.
-fn is_told<R: Threads + Sync + Abort>(
-    rt: &R,
-    alloc: Global,
-    row: &Row<'_>,
-    most: usize,
-) -> Result<(), Fail>
+fn is_told<R: Threads + Sync + Abort>(rt: &R, alloc: Global, row: &Row<'_>, most: usize)
     requires { 1 ≤ most }
 {
-    let told = run_over(rt, alloc, row.line, row.stream, most, [0, 0], &NoGate)?;
+    let told = run_over(rt, alloc, row.line, row.stream, most, [0, 0], &NoGate);
     same(rt, told.status, row.status);
     same(rt, told.notes.written(), row.note.as_bytes());
     same(rt, told.out.written(), row.text.as_bytes());
-    Ok(())
 }
 
 /// Carries out each command, with reads of few bytes, of a packet, and of all at once.
-pub(crate) fn are_told<R: Threads + Sync + Abort>(
-    rt: &R,
-    alloc: Global,
-    rows: &[Row<'_>],
-) -> Result<(), Fail> {
+pub(crate) fn are_told<R: Threads + Sync + Abort>(rt: &R, alloc: Global, rows: &[Row<'_>]) {
     for row in rows {
         for most in [7, 188, 100_000] {
-            is_told(rt, alloc, row, most)?;
+            is_told(rt, alloc, row, most);
         }
     }
-    Ok(())
 }
 
 pub(crate) fn done_with<'a>(line: &'a str, stream: &'a [u8], text: &'a str) -> Row<'a> {
@@ -210,52 +213,48 @@ pub(crate) fn no_command<'a>(line: &'a str) -> Row<'a> {
 }
 
 #[test]
-fn lesser_profiles_show_in_any_bands(rt: HostRuntime) -> Result<(), Fail> {
-    let stream = first_run(rt.alloc())?;
+fn lesser_profiles_show_in_any_bands(rt: HostRuntime) {
+    let stream = first_run(rt.alloc()).expect(&rt, "memory");
     for line in LESSER {
         let row = done_with(line, stream.as_slice(), PICTURES);
-        is_told(&rt, rt.alloc(), &row, 100_000)?;
+        is_told(&rt, rt.alloc(), &row, 100_000);
     }
-    Ok(())
 }
 
 #[test]
-fn a_wide_receiver_shows_in_any_bands(rt: HostRuntime) -> Result<(), Fail> {
-    let stream = first_run(rt.alloc())?;
+fn a_wide_receiver_shows_in_any_bands(rt: HostRuntime) {
+    let stream = first_run(rt.alloc()).expect(&rt, "memory");
     for line in WIDE {
         let row = done_with(line, stream.as_slice(), PICTURES);
-        is_told(&rt, rt.alloc(), &row, 100_000)?;
+        is_told(&rt, rt.alloc(), &row, 100_000);
     }
-    Ok(())
 }
 
 #[test]
-fn a_large_receiver_shows_in_any_bands(rt: HostRuntime) -> Result<(), Fail> {
-    let stream = first_run(rt.alloc())?;
+fn a_large_receiver_shows_in_any_bands(rt: HostRuntime) {
+    let stream = first_run(rt.alloc()).expect(&rt, "memory");
     for line in LARGE {
         let row = done_with(line, stream.as_slice(), PICTURES);
-        is_told(&rt, rt.alloc(), &row, 100_000)?;
+        is_told(&rt, rt.alloc(), &row, 100_000);
     }
-    Ok(())
 }
 
 #[test]
-fn five_rows_are_one_picture_in_any_bands(rt: HostRuntime) -> Result<(), Fail> {
+fn five_rows_are_one_picture_in_any_bands(rt: HostRuntime) {
     let stream = packet_of(&ROWS_HEAD, &ROWS_UNIT);
     for line in FIVE_ROWS {
-        are_told(&rt, rt.alloc(), &[done_with(line, &stream, ROWS_PICTURE)])?;
+        are_told(&rt, rt.alloc(), &[done_with(line, &stream, ROWS_PICTURE)]);
     }
-    Ok(())
 }
 
 /// A stream that has begun without its first packet, an empty one, and one that ends within a
 /// packet.
 #[test]
-fn parts_of_a_stream_are_shown(rt: HostRuntime) -> Result<(), Fail> {
+fn parts_of_a_stream_are_shown(rt: HostRuntime) {
     let alloc = rt.alloc();
     let first = packet_of(&FIRST_HEAD, &FIRST_UNIT);
     let second = packet_of(&SECOND_HEAD, &SECOND_UNIT);
-    let cut = stream_of(alloc, first, second, &[0x47; 100])?;
+    let cut = stream_of(alloc, first, second, &[0x47; 100]).expect(&rt, "memory");
     let rows = [
         cut_with(DUMP, cut.as_slice(), PICTURES),
         done_with(DUMP, &second, CLEAR_PICTURES),
@@ -267,11 +266,15 @@ fn parts_of_a_stream_are_shown(rt: HostRuntime) -> Result<(), Fail> {
 /// The picture stays behind a packet that is lost. Behind one that is refused, only the ticks
 /// before a set that came are told.
 #[test]
-fn losses_and_refusals_are_shown(rt: HostRuntime) -> Result<(), Fail> {
+fn losses_and_refusals_are_shown(rt: HostRuntime) {
     let alloc = rt.alloc();
     let first = packet_of(&FIRST_HEAD, &FIRST_UNIT);
-    let gap = stream_of(alloc, first, packet_of(&LATER_HEAD, &SECOND_UNIT), &[])?;
-    let unsynced = stream_of(alloc, first, packet_of(&UNSYNCED_HEAD, &SECOND_UNIT), &[])?;
+    let gap = stream_of(alloc, first, packet_of(&LATER_HEAD, &SECOND_UNIT), &[]).expect(
+        &rt, "memory",
+    );
+    let unsynced = stream_of(alloc, first, packet_of(&UNSYNCED_HEAD, &SECOND_UNIT), &[]).expect(
+        &rt, "memory",
+    );
     let rows = [
         done_with(DUMP, gap.as_slice(), PICTURES),
         refused_with(DUMP, unsynced.as_slice(), ""),
@@ -281,38 +284,35 @@ fn losses_and_refusals_are_shown(rt: HostRuntime) -> Result<(), Fail> {
 }
 
 #[test]
-fn a_read_that_fails_is_told(rt: HostRuntime) -> Result<(), Fail> {
+fn a_read_that_fails_is_told(rt: HostRuntime) {
     let alloc = rt.alloc();
-    let stream = first_run(alloc)?;
-    let unread = run_over(&rt, alloc, DUMP, stream.as_slice(), 188, [2, 0], &NoGate)?;
+    let stream = first_run(alloc).expect(&rt, "memory");
+    let unread = run_over(&rt, alloc, DUMP, stream.as_slice(), 188, [2, 0], &NoGate);
     same(&rt, unread.status, Status::ReadFault(Which::First));
     same(&rt, unread.notes.written(), b"read first\n".as_slice());
     same(&rt, unread.out.written(), b"".as_slice());
-    Ok(())
 }
 
 #[test]
-fn a_write_that_fails_is_told(rt: HostRuntime) -> Result<(), Fail> {
+fn a_write_that_fails_is_told(rt: HostRuntime) {
     let alloc = rt.alloc();
-    let stream = first_run(alloc)?;
-    let unwritten = run_over(&rt, alloc, DUMP, stream.as_slice(), 188, [0, 1], &NoGate)?;
+    let stream = first_run(alloc).expect(&rt, "memory");
+    let unwritten = run_over(&rt, alloc, DUMP, stream.as_slice(), 188, [0, 1], &NoGate);
     same(&rt, unwritten.status, Status::WriteFault(Which::Out));
     same(&rt, unwritten.notes.written(), b"write out\n".as_slice());
     same(&rt, unwritten.out.written(), b"".as_slice());
-    Ok(())
 }
 
 #[test]
-fn other_words_are_no_dump(rt: HostRuntime) -> Result<(), Fail> {
+fn other_words_are_no_dump(rt: HostRuntime) {
     for line in NO_DUMPS {
-        are_told(&rt, rt.alloc(), &[no_command(line)])?;
+        are_told(&rt, rt.alloc(), &[no_command(line)]);
     }
-    Ok(())
 }
 
 /// The text of the picture of the usual encoder's unit: two pixels in a corner of a display of 720
 /// by 576.
-fn encoder_picture(alloc: Global, title: &str) -> Result<String, Fail> {
+fn encoder_picture(alloc: Global, title: &str) -> Result<String, NoMemory> {
     let mut text = String::new(alloc);
     text.push_str(title)?;
     text.push_str("1*EB808000 1*7E808000 718*000000FF\n")?;
@@ -324,13 +324,14 @@ fn encoder_picture(alloc: Global, title: &str) -> Result<String, Fail> {
 
 /// It stands for ten seconds.
 #[test]
-fn a_usual_encoder_is_shown(rt: HostRuntime) -> Result<(), Fail> {
+fn a_usual_encoder_is_shown(rt: HostRuntime) {
     let alloc = rt.alloc();
     let stream = packet_of(&ENCODER_HEAD, &ENCODER_UNIT);
-    let mut text = encoder_picture(alloc, "picture 90000 720 576\n")?;
-    let later = encoder_picture(alloc, "picture 989999 720 576\n")?;
-    text.push_str(later.as_str())?;
-    text.push_str("picture 990000 clear\n")?;
+    let mut text = encoder_picture(alloc, "picture 90000 720 576\n").expect(&rt, "memory");
+    let later = encoder_picture(alloc, "picture 989999 720 576\n").expect(&rt, "memory");
+    text.push_str(later.as_str()).expect(&rt, "memory");
+    text.push_str("picture 990000 clear\n")
+        .expect(&rt, "memory");
     let line = "dump sd 256 1 7 in.ts out.txt 90000 989999 990000";
     are_told(&rt, alloc, &[done_with(line, &stream, text.as_str())])
 }
@@ -360,13 +361,14 @@ pub(crate) fn four_sets(alloc: Global) -> Result<Vec<u8>, NoMemory> {
 
 /// A set that is refused clears the picture, up to the next that is not normal.
 #[test]
-fn a_broken_set_is_clear(rt: HostRuntime) -> Result<(), Fail> {
+fn a_broken_set_is_clear(rt: HostRuntime) {
     let alloc = rt.alloc();
-    let stream = four_sets(alloc)?;
-    let mut text = encoder_picture(alloc, "picture 90000 720 576\n")?;
-    text.push_str("picture 180000 clear\npicture 270000 clear\n")?;
-    let last = encoder_picture(alloc, "picture 360000 720 576\n")?;
-    text.push_str(last.as_str())?;
+    let stream = four_sets(alloc).expect(&rt, "memory");
+    let mut text = encoder_picture(alloc, "picture 90000 720 576\n").expect(&rt, "memory");
+    text.push_str("picture 180000 clear\npicture 270000 clear\n")
+        .expect(&rt, "memory");
+    let last = encoder_picture(alloc, "picture 360000 720 576\n").expect(&rt, "memory");
+    text.push_str(last.as_str()).expect(&rt, "memory");
     let line = "dump sd 256 1 2 in.ts out.txt 90000 180000 270000 360000";
     are_told(
         &rt,
@@ -410,18 +412,17 @@ impl BandGate for Meeting {
 /// A picture of five rows is drawn in two bands at the same time: both are entered, and each sees
 /// the other's flag.
 #[test]
-fn two_bands_of_a_dump_meet(rt: HostRuntime) -> Result<(), Fail> {
+fn two_bands_of_a_dump_meet(rt: HostRuntime) {
     let gate = Meeting {
         first: AtomicBool::new(false),
         second: AtomicBool::new(false),
         missed: AtomicU32::new(0),
     };
     let stream = packet_of(&ROWS_HEAD, &ROWS_UNIT);
-    let told = run_over(&rt, rt.alloc(), FIVE_ROWS[1], &stream, 188, [0, 0], &gate)?;
+    let told = run_over(&rt, rt.alloc(), FIVE_ROWS[1], &stream, 188, [0, 0], &gate);
     same(&rt, told.status, Status::Done { cut: 0 });
     same(&rt, told.out.written(), ROWS_PICTURE.as_bytes());
     assert!(rt; gate.first.load(Ordering::SeqCst));
     assert!(rt; gate.second.load(Ordering::SeqCst));
     same(&rt, gate.missed.load(Ordering::SeqCst), 0);
-    Ok(())
 }

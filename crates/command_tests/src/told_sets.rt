@@ -8,7 +8,7 @@ use samples::first_run::{
     stream as first_run,
 };
 use samples::streams::{ENCODER_UNIT, packet_of, stream_of};
-use std::test::Fail;
+use std::panic::Expect;
 use sub_base::NoGate;
 
 const CHECK: &str = "check sd 0 256 1 in.ts out.txt";
@@ -61,9 +61,9 @@ const NO_CHECKS: [&str; 8] = [
 ];
 
 #[test]
-fn sets_are_told_in_each_profile(rt: HostRuntime) -> Result<(), Fail> {
+fn sets_are_told_in_each_profile(rt: HostRuntime) {
     let alloc = rt.alloc();
-    let stream = first_run(alloc)?;
+    let stream = first_run(alloc).expect(&rt, "memory");
     let stream = stream.as_slice();
     let rows = [
         done_with(CHECK, stream, BOTH_SETS),
@@ -74,9 +74,9 @@ fn sets_are_told_in_each_profile(rt: HostRuntime) -> Result<(), Fail> {
 }
 
 #[test]
-fn times_begin_at_the_origin(rt: HostRuntime) -> Result<(), Fail> {
+fn times_begin_at_the_origin(rt: HostRuntime) {
     let alloc = rt.alloc();
-    let stream = first_run(alloc)?;
+    let stream = first_run(alloc).expect(&rt, "memory");
     let stream = stream.as_slice();
     let rows = [
         done_with("check sd 90000 256 1 in.ts out.txt", stream, LATE),
@@ -86,11 +86,11 @@ fn times_begin_at_the_origin(rt: HostRuntime) -> Result<(), Fail> {
 }
 
 #[test]
-fn parts_of_a_stream_are_told(rt: HostRuntime) -> Result<(), Fail> {
+fn parts_of_a_stream_are_told(rt: HostRuntime) {
     let alloc = rt.alloc();
     let first = packet_of(&FIRST_HEAD, &FIRST_UNIT);
     let second = packet_of(&SECOND_HEAD, &SECOND_UNIT);
-    let cut = stream_of(alloc, first, second, &[0x47; 100])?;
+    let cut = stream_of(alloc, first, second, &[0x47; 100]).expect(&rt, "memory");
     let encoder = packet_of(&ENCODER_HEAD, &ENCODER_UNIT);
     let rows = [
         cut_with(CHECK, cut.as_slice(), BOTH_SETS),
@@ -105,11 +105,13 @@ fn parts_of_a_stream_are_told(rt: HostRuntime) -> Result<(), Fail> {
 }
 
 #[test]
-fn losses_and_broken_sets_are_told(rt: HostRuntime) -> Result<(), Fail> {
+fn losses_and_broken_sets_are_told(rt: HostRuntime) {
     let alloc = rt.alloc();
     let first = packet_of(&FIRST_HEAD, &FIRST_UNIT);
-    let gap = stream_of(alloc, first, packet_of(&LATER_HEAD, &SECOND_UNIT), &[])?;
-    let four = four_sets(alloc)?;
+    let gap = stream_of(alloc, first, packet_of(&LATER_HEAD, &SECOND_UNIT), &[]).expect(
+        &rt, "memory",
+    );
+    let four = four_sets(alloc).expect(&rt, "memory");
     let rows = [
         done_with(CHECK, gap.as_slice(), BEHIND_A_GAP),
         done_with(CHECK, four.as_slice(), FOUR_SETS),
@@ -119,13 +121,13 @@ fn losses_and_broken_sets_are_told(rt: HostRuntime) -> Result<(), Fail> {
 
 /// A set that only the end of the stream makes ready is not told behind a packet that is refused.
 #[test]
-fn no_end_is_told_behind_a_refusal(rt: HostRuntime) -> Result<(), Fail> {
+fn no_end_is_told_behind_a_refusal(rt: HostRuntime) {
     let alloc = rt.alloc();
     let first = packet_of(&FIRST_HEAD, &FIRST_UNIT);
     let unsynced = packet_of(&UNSYNCED_HEAD, &SECOND_UNIT);
-    let refused = stream_of(alloc, first, unsynced, &[])?;
+    let refused = stream_of(alloc, first, unsynced, &[]).expect(&rt, "memory");
     let open = packet_of(&OPEN_HEAD, &OPEN_UNIT);
-    let refused_open = stream_of(alloc, open, unsynced, &[])?;
+    let refused_open = stream_of(alloc, open, unsynced, &[]).expect(&rt, "memory");
     let rows = [
         refused_with(CHECK, refused.as_slice(), FIRST_SET),
         refused_with(CHECK, refused_open.as_slice(), ""),
@@ -139,25 +141,23 @@ fn no_end_is_told_behind_a_refusal(rt: HostRuntime) -> Result<(), Fail> {
 }
 
 #[test]
-fn a_check_that_fails_is_told(rt: HostRuntime) -> Result<(), Fail> {
+fn a_check_that_fails_is_told(rt: HostRuntime) {
     let alloc = rt.alloc();
-    let stream = first_run(alloc)?;
+    let stream = first_run(alloc).expect(&rt, "memory");
     let stream = stream.as_slice();
-    let unread = run_over(&rt, alloc, CHECK, stream, 7, [40, 0], &NoGate)?;
+    let unread = run_over(&rt, alloc, CHECK, stream, 7, [40, 0], &NoGate);
     same(&rt, unread.status, Status::ReadFault(Which::First));
     same(&rt, unread.notes.written(), b"read first\n".as_slice());
     same(&rt, unread.out.written(), FIRST_SET.as_bytes());
-    let unwritten = run_over(&rt, alloc, CHECK, stream, 188, [0, 1], &NoGate)?;
+    let unwritten = run_over(&rt, alloc, CHECK, stream, 188, [0, 1], &NoGate);
     same(&rt, unwritten.status, Status::WriteFault(Which::Out));
     same(&rt, unwritten.notes.written(), b"write out\n".as_slice());
     same(&rt, unwritten.out.written(), b"".as_slice());
-    Ok(())
 }
 
 #[test]
-fn other_words_are_no_check(rt: HostRuntime) -> Result<(), Fail> {
+fn other_words_are_no_check(rt: HostRuntime) {
     for line in NO_CHECKS {
-        are_told(&rt, rt.alloc(), &[no_command(line)])?;
+        are_told(&rt, rt.alloc(), &[no_command(line)]);
     }
-    Ok(())
 }

@@ -2,8 +2,8 @@ use crate::same::same;
 use crate::texts::FONT;
 use bitmap_font::{Font, FontFault, FontKind, SetFault};
 use std::alloc::Global;
+use std::panic::Expect;
 use std::process::Abort;
-use std::test::Fail;
 use sub_base::Depth;
 
 fn fault(alloc: Global, bytes: &[u8]) -> Option<FontFault> {
@@ -19,9 +19,9 @@ fn refused<R: Abort>(rt: &R, alloc: Global, bytes: &[u8], line: u64, kind: FontK
 }
 
 #[test]
-fn sets_two_lines_in_a_font_of_one_glyph(rt: HostRuntime) -> Result<(), Fail> {
-    let font = Font::read(rt.alloc(), FONT)?;
-    let picture = font.set("A\nAA", 1, 0, Depth::Four)?;
+fn sets_two_lines_in_a_font_of_one_glyph(rt: HostRuntime) {
+    let font = Font::read(rt.alloc(), FONT).expect(&rt, "a font");
+    let picture = font.set("A\nAA", 1, 0, Depth::Four).expect(&rt, "memory");
     same(&rt, picture.width(), 6);
     same(&rt, picture.height(), 8);
     let codes = [
@@ -29,12 +29,11 @@ fn sets_two_lines_in_a_font_of_one_glyph(rt: HostRuntime) -> Result<(), Fail> {
         0, 1, 0, 0, 1, 0, 1, 1, 0, 1, 1, 0, 0, 1, 0, 0, 1, 0, 0, 0, 0, 0, 0, 0,
     ];
     same(&rt, picture.codes(), codes.as_slice());
-    Ok(())
 }
 
 #[test]
-fn refuses_texts_in_order(rt: HostRuntime) -> Result<(), Fail> {
-    let font = Font::read(rt.alloc(), FONT)?;
+fn refuses_texts_in_order(rt: HostRuntime) {
+    let font = Font::read(rt.alloc(), FONT).expect(&rt, "a font");
     same(
         &rt,
         font.set("AB", 1, 0, Depth::Four).err(),
@@ -50,7 +49,9 @@ fn refuses_texts_in_order(rt: HostRuntime) -> Result<(), Fail> {
         font.set("\n\n", 1, 0, Depth::Four).err(),
         Some(SetFault::Empty),
     );
-    let wide = "AAAAAAAAAAAAAAAAAAAAAAAAAAAAAAAAAAAAAAAA".repeat(rt.alloc(), 17)?;
+    let wide = "AAAAAAAAAAAAAAAAAAAAAAAAAAAAAAAAAAAAAAAA"
+        .repeat(rt.alloc(), 17)
+        .expect(&rt, "memory");
     same(
         &rt,
         font.set(&wide, 1, 0, Depth::Four).err(),
@@ -62,11 +63,10 @@ fn refuses_texts_in_order(rt: HostRuntime) -> Result<(), Fail> {
         none.set("A", 1, 0, Depth::Four).err(),
         Some(SetFault::MissingGlyph('A')),
     );
-    Ok(())
 }
 
 #[test]
-fn refuses_fonts_at_their_first_wrong_line(rt: HostRuntime) -> Result<(), Fail> {
+fn refuses_fonts_at_their_first_wrong_line(rt: HostRuntime) {
     let alloc = rt.alloc();
     refused(&rt, alloc, b"", 1, FontKind::Truncated);
     refused(&rt, alloc, b"\tSTARTFONT 2.1\n", 1, FontKind::NotBdf);
@@ -129,13 +129,14 @@ fn refuses_fonts_at_their_first_wrong_line(rt: HostRuntime) -> Result<(), Fail> 
         (b"ENDCHAR".as_slice(), FontKind::NotBdf),
         (b"STARTFONT".as_slice(), FontKind::BadRow),
     ] {
-        let mut bytes = head.to_vec(alloc)?;
-        bytes.extend_from_slice(row)?;
-        bytes.push(b'\n')?;
+        let mut bytes = head.to_vec(alloc).expect(&rt, "memory");
+        bytes.extend_from_slice(row).expect(&rt, "memory");
+        bytes.push(b'\n').expect(&rt, "memory");
         refused(&rt, alloc, &bytes, 8, kind);
     }
-    let mut twice = head.to_vec(alloc)?;
-    twice.extend_from_slice(b"Ff80\nCOMMENT\nENDCHAR\nSTARTCHAR B\nENCODING 65\n")?;
+    let mut twice = head.to_vec(alloc).expect(&rt, "memory");
+    twice
+        .extend_from_slice(b"Ff80\nCOMMENT\nENDCHAR\nSTARTCHAR B\nENCODING 65\n")
+        .expect(&rt, "memory");
     refused(&rt, alloc, &twice, 12, FontKind::DoubleGlyph);
-    Ok(())
 }

@@ -4,8 +4,8 @@ use crate::same::same;
 use cue_list::{Cue, Region};
 use generated_script::generate;
 use std::alloc::Global;
+use std::panic::Expect;
 use std::process::Abort;
-use std::test::Fail;
 use sub_base::{Depth, NoMemory};
 
 /// What is wanted of a script: how many epochs and pictures it has, where its last epoch starts and
@@ -182,12 +182,11 @@ fn check_script<R: Abort>(
 }
 
 #[test]
-fn last_cues_of_scripts(rt: HostRuntime) -> Result<(), Fail> {
+fn last_cues_of_scripts(rt: HostRuntime) {
     let alloc = rt.alloc();
-    check_script(&rt, alloc, 1, &OF_ONE)?;
-    check_script(&rt, alloc, 14, &OF_FOURTEEN)?;
-    check_script(&rt, alloc, 16, &OF_SIXTEEN)?;
-    check_script(&rt, alloc, 17, &OF_SEVENTEEN)?;
-    check_script(&rt, alloc, 500, &OF_FIVE_HUNDRED)?;
-    Ok(())
+    check_script(&rt, alloc, 1, &OF_ONE).expect(&rt, "memory");
+    check_script(&rt, alloc, 14, &OF_FOURTEEN).expect(&rt, "memory");
+    check_script(&rt, alloc, 16, &OF_SIXTEEN).expect(&rt, "memory");
+    check_script(&rt, alloc, 17, &OF_SEVENTEEN).expect(&rt, "memory");
+    check_script(&rt, alloc, 500, &OF_FIVE_HUNDRED).expect(&rt, "memory");
 }

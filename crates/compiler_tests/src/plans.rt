@@ -4,10 +4,10 @@ use bitmap_font::Font;
 use cue_list::Script;
 use page_epoch::{Plan, PlanFault, PlannedSet, SentClut, SentRegion};
 use std::alloc::Global;
+use std::panic::Expect;
 use std::process::Abort;
-use std::test::Fail;
 use stream_syntax::State;
-use sub_base::{Profile, ProfileName};
+use sub_base::{NoMemory, Profile, ProfileName};
 
 /// The script of a text.
 fn script_of<R: Abort>(rt: &R, alloc: Global, text: &str) -> Script {
@@ -93,7 +93,7 @@ fn plans_of_small_scripts(rt: HostRuntime) {
 /// the eighth refresh would be, the cue ends: a receiver is due to begin there, so the region is
 /// sent too, which is empty then.
 #[test]
-fn a_cue_of_forty_seconds(rt: HostRuntime) -> Result<(), Fail> {
+fn a_cue_of_forty_seconds(rt: HostRuntime) {
     let text = "origin,0\n\
          display,8,8\n\
          refresh,5\n\
@@ -101,7 +101,7 @@ fn a_cue_of_forty_seconds(rt: HostRuntime) -> Result<(), Fail> {
          region,0,0,0,8,8,4,0\n\
          picture,a,4,1,1,3\n\
          place,90000,3690000,0,0,0,solid,a\n";
-    let plan = plan_of(&rt, rt.alloc(), text)?;
+    let plan = plan_of(&rt, rt.alloc(), text).expect(&rt, "memory");
     let sets = plan.sets.as_slice();
     // The proof counts the sets by this.
     assert_eq!(rt; sets.len(), 9);
@@ -127,11 +127,10 @@ fn a_cue_of_forty_seconds(rt: HostRuntime) -> Result<(), Fail> {
         };
         check_set(&rt, set, &wanted);
     }
-    Ok(())
 }
 
 /// A script of one region that shows twenty cues, each for a second.
-fn changing_script(alloc: Global) -> Result<String, Fail> {
+fn changing_script(alloc: Global) -> Result<String, NoMemory> {
     let mut text = String::from_str(
         alloc,
         "origin,0\ndisplay,8,8\nrefresh,60\nepoch,90000\nregion,0,0,0,8,8,4,0\npicture,a,4,1,1,3\n",
@@ -149,10 +148,10 @@ fn changing_script(alloc: Global) -> Result<String, Fail> {
 
 /// The versions of a region and of the page begin anew after 15.
 #[test]
-fn versions_wrap(rt: HostRuntime) -> Result<(), Fail> {
+fn versions_wrap(rt: HostRuntime) {
     let alloc = rt.alloc();
-    let text = changing_script(alloc)?;
-    let plan = plan_of(&rt, alloc, &text)?;
+    let text = changing_script(alloc).expect(&rt, "memory");
+    let plan = plan_of(&rt, alloc, &text).expect(&rt, "memory");
     let sets = plan.sets.as_slice();
     same(&rt, sets.len(), 21);
     for (i, version) in [(0, 0), (1, 1), (15, 15), (16, 0), (17, 1), (19, 3)] {
@@ -177,13 +176,12 @@ fn versions_wrap(rt: HostRuntime) -> Result<(), Fail> {
         (last.page_version, last.regions.len(), last.shown.len()),
         (4, 0, 0),
     );
-    Ok(())
 }
 
 /// A region of 180 bytes by 576 rows does not fit the pixel buffer of 81,920 bytes; a region with
 /// two CLUTs of 276 entries each needs 1 + 2 * 277 nodes.
 #[test]
-fn the_first_set_that_a_receiver_cannot_hold(rt: HostRuntime) -> Result<(), Fail> {
+fn the_first_set_that_a_receiver_cannot_hold(rt: HostRuntime) {
     let alloc = rt.alloc();
     let large = "origin,0\ndisplay,720,576\nrefresh,5\nepoch,90000\nregion,0,0,0,720,576,2,0\n";
     same(
@@ -197,7 +195,8 @@ fn the_first_set_that_a_receiver_cannot_hold(rt: HostRuntime) -> Result<(), Fail
     let mut text = String::from_str(
         alloc,
         "origin,0\ndisplay,4,2\nrefresh,5\nepoch,90000\nregion,0,0,0,4,2,8,0\n",
-    )?;
+    )
+    .expect(&rt, "memory");
     for clut in 0..2 {
         for (depth, entries) in [(2, 4), (4, 16), (8, 256)] {
             for entry in 0..entries {
@@ -205,7 +204,8 @@ fn the_first_set_that_a_receiver_cannot_hold(rt: HostRuntime) -> Result<(), Fail
                     text,
                     "colour,90000,{},{},{},100,128,128,0",
                     clut, depth, entry
-                )?;
+                )
+                .expect(&rt, "memory");
             }
         }
     }
@@ -214,5 +214,4 @@ fn the_first_set_that_a_receiver_cannot_hold(rt: HostRuntime) -> Result<(), Fail
         plan_of(&rt, alloc, &text).err(),
         Some(PlanFault::CompositionFull { row: 4, need: 555 }),
     );
-    Ok(())
 }

@@ -9,9 +9,9 @@ use refusal_text::{
 };
 use schedule::ScheduleFault;
 use std::alloc::Global;
-use std::test::Fail;
+use std::panic::Expect;
 use stream_syntax::PacketFault;
-use sub_base::{Profile, ProfileName, Words};
+use sub_base::{NoMemory, Profile, ProfileName, Words};
 
 /// Whether the sentence on a script that has these records behind the head ends with that text.
 fn ends(
@@ -20,7 +20,7 @@ fn ends(
     row: u64,
     kind: ScriptKind,
     wanted: &str,
-) -> Result<bool, Fail> {
+) -> Result<bool, NoMemory> {
     let script = format!(in alloc; "{PICTURE_HEAD}{records}\n")?;
     let script = Some(script.as_str().as_bytes());
     let told = script_refusal(alloc, script, Some(FONT), row, kind)?;
@@ -29,26 +29,31 @@ fn ends(
 
 /// A record is quoted as it stands, and then comes what is asked of it.
 #[test]
-fn records_are_quoted(rt: HostRuntime) -> Result<(), Fail> {
-    let script = format!(in rt.alloc(); "{PICTURE_HEAD}cue,90000,180000,0,18,0,7,8,A\r\n")?;
+fn records_are_quoted(rt: HostRuntime) {
+    let script = format!(in rt.alloc(); "{PICTURE_HEAD}cue,90000,180000,0,18,0,7,8,A\r\n").expect(
+        &rt, "memory",
+    );
     let script = Some(script.as_str().as_bytes());
     let font = Some(FONT);
-    let told = script_refusal(rt.alloc(), script, font, 7, ScriptKind::CueOutside)?;
+    let told = script_refusal(rt.alloc(), script, font, 7, ScriptKind::CueOutside).expect(
+        &rt, "memory",
+    );
     let wanted = "record 7, cue,90000,180000,0,18,0,7,8,A: the picture of a text lies inside its \
                   region; it has 3 by 4 pixels, and region 0 has 2 by 20 from its place on";
     same(&rt, told.as_bytes(), wanted.as_bytes());
-    let told = script_refusal(rt.alloc(), None, None, 7, ScriptKind::CueOutside)?;
+    let told = script_refusal(rt.alloc(), None, None, 7, ScriptKind::CueOutside).expect(
+        &rt, "memory",
+    );
     let wanted = "record 7 of the script: a picture lies inside its region";
     same(&rt, told.as_bytes(), wanted.as_bytes());
-    let told = script_refusal(rt.alloc(), script, font, 8, ScriptKind::Order)?;
+    let told = script_refusal(rt.alloc(), script, font, 8, ScriptKind::Order).expect(&rt, "memory");
     let wanted = "record 8, behind the last one of the script: a script has an epoch";
     same(&rt, told.as_bytes(), wanted.as_bytes());
-    Ok(())
 }
 
 /// A record, its kind of fault, and how the sentence ends.
 #[test]
-fn faults_of_cells_are_told(rt: HostRuntime) -> Result<(), Fail> {
+fn faults_of_cells_are_told(rt: HostRuntime) {
     let cases = [
         (
             "regions,1,0",
@@ -114,13 +119,12 @@ fn faults_of_cells_are_told(rt: HostRuntime) -> Result<(), Fail> {
         ),
     ];
     for (record, kind, wanted) in cases {
-        assert!(rt; ends(rt.alloc(), record, 7, kind, wanted)?);
+        assert!(rt; ends(rt.alloc(), record, 7, kind, wanted).expect(&rt, "memory"));
     }
-    Ok(())
 }
 
 #[test]
-fn faults_of_places_are_told(rt: HostRuntime) -> Result<(), Fail> {
+fn faults_of_places_are_told(rt: HostRuntime) {
     let cases = [
         (
             "refresh,5",
@@ -164,13 +168,12 @@ fn faults_of_places_are_told(rt: HostRuntime) -> Result<(), Fail> {
         ),
     ];
     for (record, kind, wanted) in cases {
-        assert!(rt; ends(rt.alloc(), record, 7, kind, wanted)?);
+        assert!(rt; ends(rt.alloc(), record, 7, kind, wanted).expect(&rt, "memory"));
     }
-    Ok(())
 }
 
 #[test]
-fn faults_of_times_are_told(rt: HostRuntime) -> Result<(), Fail> {
+fn faults_of_times_are_told(rt: HostRuntime) {
     let cases = [
         (
             "place,80000,180000,0,0,0,solid,a",
@@ -199,17 +202,16 @@ fn faults_of_times_are_told(rt: HostRuntime) -> Result<(), Fail> {
         ),
     ];
     for (record, kind, wanted) in cases {
-        assert!(rt; ends(rt.alloc(), record, 7, kind, wanted)?);
+        assert!(rt; ends(rt.alloc(), record, 7, kind, wanted).expect(&rt, "memory"));
     }
     let two = "place,90000,180000,0,0,0,solid,a\nepoch,179999";
     let wanted = "; the epoch of record 4 starts at 90000, and record 7 reaches to 180000";
-    assert!(rt; ends(rt.alloc(), two, 8, ScriptKind::OutsideEpoch, wanted)?);
-    Ok(())
+    assert!(rt; ends(rt.alloc(), two, 8, ScriptKind::OutsideEpoch, wanted).expect(&rt, "memory"));
 }
 
 /// Which limit it is stands in the sentence.
 #[test]
-fn limits_are_told(rt: HostRuntime) -> Result<(), Fail> {
+fn limits_are_told(rt: HostRuntime) {
     let cases = [
         ("epoch,1", "at most 512 epochs"),
         ("region,1", "at most 64 regions"),
@@ -217,34 +219,34 @@ fn limits_are_told(rt: HostRuntime) -> Result<(), Fail> {
         ("cue,1", "all pictures and set texts together"),
     ];
     for (record, wanted) in cases {
-        assert!(rt; ends(rt.alloc(), record, 7, ScriptKind::TooMany, wanted)?);
+        assert!(rt; ends(rt.alloc(), record, 7, ScriptKind::TooMany, wanted).expect(&rt, "memory"));
     }
-    Ok(())
 }
 
 /// Long records are cut before a character, and control characters are not shown.
 #[test]
-fn quotations_are_short(rt: HostRuntime) -> Result<(), Fail> {
+fn quotations_are_short(rt: HostRuntime) {
     let alloc = rt.alloc();
-    let mut record = String::from_str(alloc, "\u{1B}")?;
+    let mut record = String::from_str(alloc, "\u{1B}").expect(&rt, "memory");
     for _ in 0..59 {
-        record.push_str("ä")?;
+        record.push_str("ä").expect(&rt, "memory");
     }
-    record.push_str("äää")?;
-    let script = format!(in alloc; "{record}\n")?;
+    record.push_str("äää").expect(&rt, "memory");
+    let script = format!(in alloc; "{record}\n").expect(&rt, "memory");
     let script = Some(script.as_str().as_bytes());
-    let told = script_refusal(alloc, script, None, 1, ScriptKind::Unknown)?;
-    let mut wanted = String::from_str(alloc, "record 1, .")?;
+    let told = script_refusal(alloc, script, None, 1, ScriptKind::Unknown).expect(&rt, "memory");
+    let mut wanted = String::from_str(alloc, "record 1, .").expect(&rt, "memory");
     for _ in 0..59 {
-        wanted.push_str("ä")?;
+        wanted.push_str("ä").expect(&rt, "memory");
     }
-    wanted.push_str("..: a record begins with")?;
+    wanted
+        .push_str("..: a record begins with")
+        .expect(&rt, "memory");
     assert!(rt; told.as_bytes().starts_with(wanted.as_str().as_bytes()));
-    Ok(())
 }
 
 #[test]
-fn fonts_are_told(rt: HostRuntime) -> Result<(), Fail> {
+fn fonts_are_told(rt: HostRuntime) {
     let cases = [
         (
             8,
@@ -278,14 +280,13 @@ fn fonts_are_told(rt: HostRuntime) -> Result<(), Fail> {
         ),
     ];
     for (line, kind, wanted) in cases {
-        let told = font_refusal(rt.alloc(), Some(FONT), line, kind)?;
+        let told = font_refusal(rt.alloc(), Some(FONT), line, kind).expect(&rt, "memory");
         assert!(rt; told.as_bytes().starts_with(wanted.as_bytes()));
     }
-    Ok(())
 }
 
 #[test]
-fn plans_are_told(rt: HostRuntime) -> Result<(), Fail> {
+fn plans_are_told(rt: HostRuntime) {
     let sd = Profile::of(ProfileName::Sd);
     let cases = [
         (
@@ -307,17 +308,20 @@ fn plans_are_told(rt: HostRuntime) -> Result<(), Fail> {
         ),
     ];
     for (fault, wanted) in cases {
-        let told = plan_refusal(rt.alloc(), Some(PICTURE_HEAD.as_bytes()), &sd, fault)?;
+        let told = plan_refusal(rt.alloc(), Some(PICTURE_HEAD.as_bytes()), &sd, fault).expect(
+            &rt, "memory",
+        );
         same(&rt, told.as_bytes(), wanted.as_bytes());
     }
-    Ok(())
 }
 
 #[test]
-fn schedules_are_told(rt: HostRuntime) -> Result<(), Fail> {
+fn schedules_are_told(rt: HostRuntime) {
     let alloc = rt.alloc();
     let sd = Profile::of(ProfileName::Sd);
-    let text = format!(in alloc; "{PICTURE_HEAD}place,90000,1200000,0,0,0,solid,a\n")?;
+    let text = format!(in alloc; "{PICTURE_HEAD}place,90000,1200000,0,0,0,solid,a\n").expect(
+        &rt, "memory",
+    );
     let text = Some(text.as_str().as_bytes());
     let cases = [
         (
@@ -363,32 +367,30 @@ fn schedules_are_told(rt: HostRuntime) -> Result<(), Fail> {
         ),
     ];
     for (fault, wanted) in cases {
-        let told = schedule_refusal(alloc, text, None, &sd, 7, fault)?;
+        let told = schedule_refusal(alloc, text, None, &sd, 7, fault).expect(&rt, "memory");
         let wanted = wanted.strip_prefix("; ").unwrap_or(wanted);
         assert!(rt; told.as_bytes().ends_with(wanted.as_bytes()));
     }
-    Ok(())
 }
 
 #[test]
-fn packets_and_files_are_told(rt: HostRuntime) -> Result<(), Fail> {
-    let told = packet_refusal(rt.alloc(), 2, PacketFault::NoSync)?;
+fn packets_and_files_are_told(rt: HostRuntime) {
+    let told = packet_refusal(rt.alloc(), 2, PacketFault::NoSync).expect(&rt, "memory");
     assert!(rt;
         told.as_bytes()
             .starts_with(b"packet 2, at byte 376 of the stream: a transport")
     );
-    let told = packet_refusal(rt.alloc(), 0, PacketFault::Scrambled)?;
+    let told = packet_refusal(rt.alloc(), 0, PacketFault::Scrambled).expect(&rt, "memory");
     assert!(rt; told.as_bytes().ends_with(b"are not scrambled"));
-    let told = file_refusal(rt.alloc(), "a.ts", FileFault::Unread)?;
+    let told = file_refusal(rt.alloc(), "a.ts", FileFault::Unread).expect(&rt, "memory");
     assert!(rt; told.as_bytes() == b"a.ts: it could not be opened or read".as_slice());
-    let told = file_refusal(rt.alloc(), "a.ts", FileFault::IsInput)?;
+    let told = file_refusal(rt.alloc(), "a.ts", FileFault::IsInput).expect(&rt, "memory");
     assert!(rt; told.as_bytes().starts_with(b"a.ts: it is an input"));
-    Ok(())
 }
 
 /// A wrong command line, and how its sentence begins.
 #[test]
-fn wrong_words_are_told(rt: HostRuntime) -> Result<(), Fail> {
+fn wrong_words_are_told(rt: HostRuntime) {
     let cases = [
         (
             "lists 256 a b",
@@ -437,12 +439,11 @@ fn wrong_words_are_told(rt: HostRuntime) -> Result<(), Fail> {
     for (line, wanted) in cases {
         let mut words = Words::make(rt.alloc());
         for word in line.split(' ') {
-            words.push(word)?;
+            words.push(word).expect(&rt, "memory");
         }
-        let told = command_refusal(rt.alloc(), &words)?;
+        let told = command_refusal(rt.alloc(), &words).expect(&rt, "memory");
         assert!(rt; told.as_bytes().starts_with(wanted.as_bytes()));
     }
-    let told = command_refusal(rt.alloc(), &Words::make(rt.alloc()))?;
+    let told = command_refusal(rt.alloc(), &Words::make(rt.alloc())).expect(&rt, "memory");
     assert!(rt; told.as_bytes().starts_with(b"there is no word"));
-    Ok(())
 }

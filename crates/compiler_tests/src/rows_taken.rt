@@ -4,7 +4,6 @@ use csv::ByteRecord;
 use cue_list::{OnlyRow, RecordFault, ScriptKind, ScriptReader, is_tick_row, only_row};
 use std::alloc::Global;
 use std::process::Abort;
-use std::test::Fail;
 
 /// Rows that come one after another, and what is wrong with each.
 const ROWS: [(&str, Option<ScriptKind>); 12] = [
@@ -29,7 +28,7 @@ const ROWS: [(&str, Option<ScriptKind>); 12] = [
 ];
 
 #[test]
-fn rows_are_tested_by_those_that_were_taken(rt: HostRuntime) -> Result<(), Fail> {
+fn rows_are_tested_by_those_that_were_taken(rt: HostRuntime) {
     let alloc = rt.alloc();
     let font = Font::empty(alloc);
     let mut reader = ScriptReader::new(alloc);
@@ -39,7 +38,6 @@ fn rows_are_tested_by_those_that_were_taken(rt: HostRuntime) -> Result<(), Fail>
         };
         same(&rt, fault_of(alloc, &mut reader, &font, &row), *wanted);
     }
-    Ok(())
 }
 
 /// Rows of which each is taken, taken back, and taken again: none leaves a trace.
@@ -55,7 +53,7 @@ const AGAIN: [&str; 8] = [
 ];
 
 #[test]
-fn a_row_that_is_taken_back_can_come_again(rt: HostRuntime) -> Result<(), Fail> {
+fn a_row_that_is_taken_back_can_come_again(rt: HostRuntime) {
     let alloc = rt.alloc();
     let font = Font::empty(alloc);
     let mut reader = ScriptReader::new(alloc);
@@ -69,7 +67,6 @@ fn a_row_that_is_taken_back_can_come_again(rt: HostRuntime) -> Result<(), Fail> 
         reader.go_back(before);
         same(&rt, fault_of(alloc, &mut reader, &font, &row), None);
     }
-    Ok(())
 }
 
 /// Tick rows behind an origin at 7 and a last tick at 100, and what is wrong with each.
@@ -83,7 +80,7 @@ const TICKS: [(&str, Option<ScriptKind>); 6] = [
 ];
 
 #[test]
-fn ticks_rise_behind_the_origin(rt: HostRuntime) -> Result<(), Fail> {
+fn ticks_rise_behind_the_origin(rt: HostRuntime) {
     let alloc = rt.alloc();
     let font = Font::empty(alloc);
     let mut reader = ScriptReader::new(alloc);
@@ -108,11 +105,10 @@ fn ticks_rise_behind_the_origin(rt: HostRuntime) -> Result<(), Fail> {
         };
         same(&rt, reader.tick(&row, Some(100)).err(), *wanted);
     }
-    Ok(())
 }
 
 #[test]
-fn a_text_has_one_record_or_another_number(rt: HostRuntime) -> Result<(), Fail> {
+fn a_text_has_one_record_or_another_number(rt: HostRuntime) {
     let alloc = rt.alloc();
     for (text, wanted) in &[("", 0), ("\n", 0), ("a\nb", 2), ("\"a\nb\"\n", 1)] {
         let count = match only_row(alloc, text.as_bytes()) {
@@ -122,7 +118,6 @@ fn a_text_has_one_record_or_another_number(rt: HostRuntime) -> Result<(), Fail> 
         };
         same(&rt, count, *wanted);
     }
-    Ok(())
 }
 
 /// The one record of a text.

@@ -2,8 +2,8 @@ use crate::same::same;
 use crate::texts::{FONT, PICTURE_HEAD};
 use bitmap_font::Font;
 use cue_list::{Epoch, Script, ScriptFault, ScriptKind};
+use std::panic::Expect;
 use std::process::Abort;
-use std::test::Fail;
 use sub_base::CLEAR;
 
 const HEAD: &str = "origin,0\ndisplay,40,30\nrefresh,5\n";
@@ -317,14 +317,14 @@ const EPOCH_HEAD: &str =
     "origin,0\ndisplay,40,30\nrefresh,5\nepoch,90000\nregion,0,0,0,20,20,4,0\n";
 
 #[test]
-fn wrong_scripts_are_refused_at_their_first_wrong_record(rt: HostRuntime) -> Result<(), Fail> {
+fn wrong_scripts_are_refused_at_their_first_wrong_record(rt: HostRuntime) {
     let alloc = rt.alloc();
     let Ok(font) = Font::read(alloc, FONT) else {
         panic!(&rt; "the font is read");
     };
     for (head, more, row, kind) in &WRONG {
-        let mut text = String::from_str(alloc, head)?;
-        text.push_str(more)?;
+        let mut text = String::from_str(alloc, head).expect(&rt, "memory");
+        text.push_str(more).expect(&rt, "memory");
         match Script::read(alloc, text.as_bytes(), &font) {
             Err(fault) => same(
                 &rt,
@@ -337,7 +337,6 @@ fn wrong_scripts_are_refused_at_their_first_wrong_record(rt: HostRuntime) -> Res
             Ok(_) => panic!(&rt; "the script {text} is wrong"),
         }
     }
-    Ok(())
 }
 
 /// Scripts without a faulty record: what follows the head, and how many epochs, pictures and cues
@@ -380,15 +379,15 @@ const RIGHT: [(&str, usize, usize, usize); 6] = [
 ];
 
 #[test]
-fn right_scripts_are_read(rt: HostRuntime) -> Result<(), Fail> {
+fn right_scripts_are_read(rt: HostRuntime) {
     let alloc = rt.alloc();
     let Ok(font) = Font::read(alloc, FONT) else {
         panic!(&rt; "the font is read");
     };
     for (more, epochs, pictures, cues) in &RIGHT {
-        let mut text = String::from_str(alloc, "\u{feff}")?;
-        text.push_str(HEAD)?;
-        text.push_str(more)?;
+        let mut text = String::from_str(alloc, "\u{feff}").expect(&rt, "memory");
+        text.push_str(HEAD).expect(&rt, "memory");
+        text.push_str(more).expect(&rt, "memory");
         match Script::read(alloc, text.as_bytes(), &font) {
             Ok(script) => same(
                 &rt,
@@ -402,11 +401,10 @@ fn right_scripts_are_read(rt: HostRuntime) -> Result<(), Fail> {
             Err(fault) => panic!(&rt; "the script {text} is right: {fault}"),
         }
     }
-    Ok(())
 }
 
 #[test]
-fn a_cue_shows_the_last_picture_of_a_name_before_it(rt: HostRuntime) -> Result<(), Fail> {
+fn a_cue_shows_the_last_picture_of_a_name_before_it(rt: HostRuntime) {
     let alloc = rt.alloc();
     let font = Font::empty(alloc);
     let text = b"origin,7\n\
@@ -457,7 +455,6 @@ fn a_cue_shows_the_last_picture_of_a_name_before_it(rt: HostRuntime) -> Result<(
         panic!(&rt; "three pictures were named");
     };
     same(&rt, picture.codes(), [3, 15].as_slice());
-    Ok(())
 }
 
 /// Pictures in runs: depth, sides and runs, and the codes that they spell.
@@ -469,14 +466,14 @@ const RUNS: [(&str, &[u8]); 4] = [
 ];
 
 #[test]
-fn runs_spell_codes(rt: HostRuntime) -> Result<(), Fail> {
+fn runs_spell_codes(rt: HostRuntime) {
     let alloc = rt.alloc();
     let font = Font::empty(alloc);
     for (cells, codes) in &RUNS {
-        let mut text = String::from_str(alloc, HEAD)?;
-        text.push_str("picture,a,")?;
-        text.push_str(cells)?;
-        text.push_str("\nepoch,90000\n")?;
+        let mut text = String::from_str(alloc, HEAD).expect(&rt, "memory");
+        text.push_str("picture,a,").expect(&rt, "memory");
+        text.push_str(cells).expect(&rt, "memory");
+        text.push_str("\nepoch,90000\n").expect(&rt, "memory");
         let Ok(script) = Script::read(alloc, text.as_bytes(), &font) else {
             panic!(&rt; "the script {text} is right");
         };
@@ -485,7 +482,6 @@ fn runs_spell_codes(rt: HostRuntime) -> Result<(), Fail> {
         };
         same(&rt, picture.codes(), *codes);
     }
-    Ok(())
 }
 
 fn cue_count(epochs: &[Epoch]) -> usize {

@@ -10,23 +10,22 @@ use indexed_picture::Indexed;
 use page_epoch::{PlannedSet, SentClut, SentRegion, State};
 use set_coder::{KeptBlocks, load_of, size_of, write_set};
 use std::alloc::Global;
+use std::panic::Expect;
 use std::process::Abort;
-use std::test::Fail;
-use sub_base::{Colour, Depth, Items, SetLoad, UNIT_ROOM};
+use sub_base::{Colour, Depth, Items, NoMemory, SetLoad, UNIT_ROOM};
 
 /// A picture of four pixels of four bits.
-fn four_pixels(alloc: Global, codes: &[u8]) -> Result<Indexed, Fail>
-    ensures sides { IfOk result
-        (λ picture. (picture.width ≡ 4) × (picture.height ≡ 1)
-        × (picture.depth ≡ Depth.Four)) }
-    ensures picture { IfOk result IsPicture }
+fn four_pixels<R: Abort>(rt: &R, alloc: Global, codes: &[u8]) -> Indexed
+    ensures sides { (result.width ≡ 4) × (result.height ≡ 1) × (result.depth ≡ Depth.Four) }
+    ensures picture { IsPicture result }
 {
-    Ok(Indexed::from_codes(alloc, 4, 1, Depth::Four, codes.to_vec(alloc)?)?)
+    let codes = codes.to_vec(alloc).expect(rt, "memory");
+    Indexed::from_codes(alloc, 4, 1, Depth::Four, codes).expect(rt, "a picture")
 }
 
 /// The epoch of one region, in which a solid picture is shown, and later a second one over it that
 /// is seen through. A colour is set as the epoch starts.
-fn sample_epoch(alloc: Global) -> Result<Epoch, Fail>
+fn sample_epoch(alloc: Global) -> Result<Epoch, NoMemory>
     ensures { IfOk result (λ epoch. epoch ≡ sample) }
 {
     Ok(Epoch {
@@ -54,14 +53,14 @@ fn script_of(alloc: Global, epochs: Vec<Epoch>, pictures: Vec<Indexed>) -> Scrip
 }
 
 /// The script of two cues, whose second picture is seen through.
-fn script(alloc: Global) -> Result<Script, Fail>
-    ensures { IfOk result (λ script. script.epochs ≡ sample ∷ []) }
+fn script<R: Abort>(rt: &R, alloc: Global) -> Script
+    ensures { result.epochs ≡ sample ∷ [] }
 {
-    let solid = four_pixels(alloc, &[2, 2, 2, 2])?;
-    let through = four_pixels(alloc, &[1, 1, 3, 4])?;
-    let epochs = vec![in alloc; sample_epoch(alloc)?]?;
-    let pictures = vec![in alloc; solid, through]?;
-    Ok(script_of(alloc, epochs, pictures))
+    let solid = four_pixels(rt, alloc, &[2, 2, 2, 2]);
+    let through = four_pixels(rt, alloc, &[1, 1, 3, 4]);
+    let epochs = vec![in alloc; sample_epoch(alloc).expect(rt, "memory")].expect(rt, "memory");
+    let pictures = vec![in alloc; solid, through].expect(rt, "memory");
+    script_of(alloc, epochs, pictures)
 }
 
 const REGION: Region = Region {
@@ -159,7 +158,7 @@ fn set_with(
     page_version: u8,
     cue: u32,
     cluts: Vec<SentClut>,
-) -> Result<PlannedSet, Fail>
+) -> Result<PlannedSet, NoMemory>
     requires time { pts < 2 ^ 33 }
     requires version { page_version < 16 }
     requires cue { cue < 2 }
@@ -206,7 +205,7 @@ fn empty_set(alloc: Global, pts: u64, page_version: u8) -> PlannedSet
 }
 
 /// The CLUT with the script's colour.
-fn one_clut(alloc: Global) -> Result<Vec<SentClut>, Fail>
+fn one_clut(alloc: Global) -> Result<Vec<SentClut>, NoMemory>
     ensures few { IfOk result (λ cluts. length cluts.items ≤ 1) }
     ensures each { IfOk result (λ cluts. All (IsSendableClut sample) cluts.items) }
 {
@@ -221,33 +220,29 @@ fn one_clut(alloc: Global) -> Result<Vec<SentClut>, Fail>
 }
 
 /// The packet of a set of the script.
-fn packet_of<R: Abort>(
-    rt: &R,
-    alloc: Global,
-    script: &Script,
-    set: &PlannedSet,
-) -> Result<Vec<u8>, Fail>
+fn packet_of<R: Abort>(rt: &R, alloc: Global, script: &Script, set: &PlannedSet) -> Vec<u8>
     requires epochs { script.now.epochs ≡ sample ∷ [] }
     requires set { (set.now.epoch ≡ 0) × IsSendableIn sample set.now }
 {
-    let load = load_of(alloc, script, set)?;
+    let load = load_of(alloc, script, set).expect(rt, "memory");
     same(rt, size_of(script, set), load.load.size);
     assert!(rt; load.longest <= UNIT_ROOM);
     let mut out = Vec::new(alloc);
-    write_set(script, set, 1, &mut out)?;
-    let kept = KeptBlocks::of_script(alloc, script)?;
-    let again = kept.load_of(script, set)?;
+    write_set(script, set, 1, &mut out).expect(rt, "memory");
+    let kept = KeptBlocks::of_script(alloc, script).expect(rt, "memory");
+    let again = kept.load_of(script, set).expect(rt, "memory");
     same(rt, again.load, load.load);
     same(rt, again.longest, load.longest);
     same(rt, again.units.as_slice(), load.units.as_slice());
     let mut twice = Vec::new(alloc);
-    kept.write_set(script, set, 1, &mut twice)?;
+    kept.write_set(script, set, 1, &mut twice)
+        .expect(rt, "memory");
     same(rt, twice.as_slice(), out.as_slice());
-    Ok(out)
+    out
 }
 
 /// What a set of the script asks of a receiver.
-fn load(alloc: Global, script: &Script, set: &PlannedSet) -> Result<SetLoad, Fail>
+fn load(alloc: Global, script: &Script, set: &PlannedSet) -> Result<SetLoad, NoMemory>
     requires epochs { script.now.epochs ≡ sample ∷ [] }
     requires set { (set.now.epoch ≡ 0) × IsSendableIn sample set.now }
 {
@@ -255,59 +250,73 @@ fn load(alloc: Global, script: &Script, set: &PlannedSet) -> Result<SetLoad, Fai
 }
 
 #[test]
-fn a_whole_page(rt: HostRuntime) -> Result<(), Fail> {
+fn a_whole_page(rt: HostRuntime) {
     let alloc = rt.alloc();
-    let script = script(alloc)?;
-    let set = set_with(alloc, 90_000, State::ModeChange, 0, 0, Vec::new(alloc))?;
+    let script = script(&rt, alloc);
+    let set = set_with(alloc, 90_000, State::ModeChange, 0, 0, Vec::new(alloc)).expect(
+        &rt, "memory",
+    );
     let wanted = SetLoad {
         pts: 90_000,
         size: 90,
         painted: 1,
     };
-    same(&rt, load(alloc, &script, &set)?, wanted);
     same(
         &rt,
-        packet_of(&rt, alloc, &script, &set)?.as_slice(),
+        load(alloc, &script, &set).expect(&rt, "memory"),
+        wanted,
+    );
+    same(
+        &rt,
+        packet_of(&rt, alloc, &script, &set).as_slice(),
         WHOLE_PAGE.as_slice(),
     );
-    Ok(())
 }
 
 #[test]
-fn one_more_cue(rt: HostRuntime) -> Result<(), Fail> {
+fn one_more_cue(rt: HostRuntime) {
     let alloc = rt.alloc();
-    let script = script(alloc)?;
-    let set = set_with(alloc, 135_000, State::Normal, 1, 1, Vec::new(alloc))?;
-    let packet = packet_of(&rt, alloc, &script, &set)?;
+    let script = script(&rt, alloc);
+    let set = set_with(alloc, 135_000, State::Normal, 1, 1, Vec::new(alloc)).expect(&rt, "memory");
+    let packet = packet_of(&rt, alloc, &script, &set);
     same(&rt, packet.as_slice(), ONE_MORE_CUE.as_slice());
-    Ok(())
 }
 
 #[test]
-fn a_page_without_regions(rt: HostRuntime) -> Result<(), Fail> {
+fn a_page_without_regions(rt: HostRuntime) {
     let alloc = rt.alloc();
-    let script = script(alloc)?;
+    let script = script(&rt, alloc);
     let set = empty_set(alloc, 270_000, 2);
     let wanted = SetLoad {
         pts: 270_000,
         size: 31,
         painted: 0,
     };
-    same(&rt, load(alloc, &script, &set)?, wanted);
     same(
         &rt,
-        packet_of(&rt, alloc, &script, &set)?.as_slice(),
+        load(alloc, &script, &set).expect(&rt, "memory"),
+        wanted,
+    );
+    same(
+        &rt,
+        packet_of(&rt, alloc, &script, &set).as_slice(),
         NO_REGION.as_slice(),
     );
-    Ok(())
 }
 
 #[test]
-fn an_entry_of_a_clut(rt: HostRuntime) -> Result<(), Fail> {
+fn an_entry_of_a_clut(rt: HostRuntime) {
     let alloc = rt.alloc();
-    let script = script(alloc)?;
-    let set = set_with(alloc, 90_000, State::Acquisition, 0, 0, one_clut(alloc)?)?;
-    let packet = packet_of(&rt, alloc, &script, &set)?;
+    let script = script(&rt, alloc);
+    let set = set_with(
+        alloc,
+        90_000,
+        State::Acquisition,
+        0,
+        0,
+        one_clut(alloc).expect(&rt, "memory"),
+    )
+    .expect(&rt, "memory");
+    let packet = packet_of(&rt, alloc, &script, &set);
     same(&rt, packet.as_slice(), WITH_CLUT.as_slice());
-    Ok(())
 }

@@ -8,9 +8,9 @@ use page_epoch::{Plan, PlannedSet};
 use pes_packets::read_pes;
 use set_coder::{KeptBlocks, load_of, size_of, write_set};
 use std::alloc::Global;
+use std::panic::Expect;
 use std::process::Abort;
-use std::test::Fail;
-use sub_base::{Profile, ProfileName, UNIT_ROOM};
+use sub_base::{NoMemory, Profile, ProfileName, UNIT_ROOM};
 
 /// Appends the record of a picture whose two codes change from pixel to pixel. The string of each
 /// of its rows has a byte for each pixel and two for its end, and stands between two bytes; no two
@@ -21,7 +21,7 @@ fn append_picture(
     name: &str,
     width: u16,
     height: u16,
-) -> Result<(), Fail> {
+) -> Result<(), NoMemory> {
     text.push_str(&format!(in alloc; "picture,{name},8,{width},{height},")?)?;
     for y in 0..height {
         for x in 0..width {
@@ -34,7 +34,7 @@ fn append_picture(
 
 /// A script of normal sets with an object of 65,482, of 65,484 and of 65,614 bytes, and of a mode
 /// change with three objects of 60,014 bytes.
-fn script_text(alloc: Global) -> Result<String, Fail> {
+fn script_text(alloc: Global) -> Result<String, NoMemory> {
     let mut text = String::new(alloc);
     text.push_str("origin,0\ndisplay,1920,1080\nrefresh,60\n")?;
     text.push_str("epoch,500000\nregion,0,0,0,1920,1080,8,0\n")?;
@@ -76,44 +76,48 @@ fn check_set<R: Abort>(
     set: &PlannedSet,
     units: &[u32],
     longest: u64,
-) -> Result<(), Fail>
+)
     requires { IsOfItsEpoch script.now set.now }
 {
-    let load = load_of(alloc, script, set)?;
+    let load = load_of(alloc, script, set).expect(rt, "memory");
     same(rt, load.units.as_slice(), units);
     same(rt, load.longest, longest);
     same(rt, size_of(script, set), load.load.size);
     if load.longest > UNIT_ROOM {
-        return Ok(());
+        return;
     }
     let mut out = Vec::new(alloc);
-    write_set(script, set, 1, &mut out)?;
-    let kept = KeptBlocks::of_script(alloc, script)?;
+    write_set(script, set, 1, &mut out).expect(rt, "memory");
+    let kept = KeptBlocks::of_script(alloc, script).expect(rt, "memory");
     let mut again = Vec::new(alloc);
-    kept.write_set(script, set, 1, &mut again)?;
+    kept.write_set(script, set, 1, &mut again)
+        .expect(rt, "memory");
     same(rt, again.as_slice(), out.as_slice());
     let mut packets = out.as_slice();
     for length in units {
         assert!(rt; *length as usize <= packets.len());
         let (packet, behind) = packets.split_at(*length as usize);
-        same(rt, read_pes(packet)?.pts, set.pts);
+        same(rt, read_pes(packet).expect(rt, "a PES packet").pts, set.pts);
         packets = behind;
     }
     same(rt, packets.len(), 0);
-    Ok(())
 }
 
 #[test]
-fn sets_of_several_units(rt: HostRuntime) -> Result<(), Fail> {
+fn sets_of_several_units(rt: HostRuntime) {
     let alloc = rt.alloc();
-    let script = Script::read(alloc, script_text(alloc)?.as_bytes(), &Font::empty(alloc))?;
-    let plan = Plan::make(alloc, &script, &Profile::of(ProfileName::Large))?;
+    let script = Script::read(
+        alloc,
+        script_text(alloc).expect(&rt, "memory").as_bytes(),
+        &Font::empty(alloc),
+    )
+    .expect(&rt, "a script");
+    let plan = Plan::make(alloc, &script, &Profile::of(ProfileName::Large)).expect(&rt, "a plan");
     let sets = plan.sets.as_slice();
     // The proof counts the sets by this.
     assert_eq!(rt; sets.len(), LOADS.len());
     for i in 0..sets.len() {
         let (units, longest) = LOADS[i];
-        check_set(&rt, alloc, &script, &sets[i], units, longest)?;
+        check_set(&rt, alloc, &script, &sets[i], units, longest);
     }
-    Ok(())
 }

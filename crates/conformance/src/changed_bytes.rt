@@ -2,9 +2,10 @@ use crate::running::{reading, run, sound};
 use crate::same::same;
 use samples::first_run::{CHECK, DUMP, LIST, stream};
 use std::alloc::Global;
+use std::panic::Expect;
 use std::process::Abort;
-use std::test::Fail;
 use std::thread::Threads;
+use sub_base::NoMemory;
 
 /// What the text of a command looks like.
 #[derive(Clone, Copy)]
@@ -63,7 +64,7 @@ fn fault_of(packet: &[u8; 188]) -> Option<&'static str> {
 }
 
 /// The line and the code of a command that reads these packets.
-fn line_of(alloc: Global, stream: &[u8]) -> Result<(u8, String), Fail> {
+fn line_of(alloc: Global, stream: &[u8]) -> Result<(u8, String), NoMemory> {
     let (packets, _) = stream.as_chunks::<188>();
     for (number, packet) in packets.iter().enumerate() {
         if let Some(name) = fault_of(packet) {
@@ -110,9 +111,9 @@ fn is_answered<R: Threads + Sync + Abort>(
     line: &str,
     looks: Looks<'_>,
     stream: &[u8],
-) -> Result<(), Fail> {
-    let (code, note) = line_of(alloc, stream)?;
-    let ended = run(rt, alloc, &reading(line, stream), sound(100_000))?;
+) {
+    let (code, note) = line_of(alloc, stream).expect(rt, "memory");
+    let ended = run(rt, alloc, &reading(line, stream), sound(100_000));
     same(rt, ended.notes.written(), note.as_bytes());
     same(rt, ended.code, code);
     let text = match std::str::from_utf8(ended.out.written()) {
@@ -123,11 +124,10 @@ fn is_answered<R: Threads + Sync + Abort>(
     if code == 0 {
         same(rt, count_of(text, looks.last), looks.count);
     }
-    Ok(())
 }
 
 /// The bytes with another one at a place.
-fn changed(alloc: Global, bytes: &[u8], place: usize, value: u8) -> Result<Vec<u8>, Fail> {
+fn changed(alloc: Global, bytes: &[u8], place: usize, value: u8) -> Result<Vec<u8>, NoMemory> {
     let mut copy = Vec::from_slice(alloc, bytes)?;
     if let Some(byte) = copy.as_mut_slice().get_mut(place) {
         *byte = value;
@@ -141,28 +141,27 @@ fn changes_are_answered<R: Threads + Sync + Abort>(
     alloc: Global,
     line: &str,
     looks: Looks<'_>,
-) -> Result<(), Fail> {
-    let stream = stream(alloc)?;
+) {
+    let stream = stream(alloc).expect(rt, "memory");
     for (place, byte) in stream.iter().enumerate() {
         for value in [0x00, 0xFF, 0xFF - *byte] {
-            let other = changed(alloc, stream.as_slice(), place, value)?;
-            is_answered(rt, alloc, line, looks, other.as_slice())?;
+            let other = changed(alloc, stream.as_slice(), place, value).expect(rt, "memory");
+            is_answered(rt, alloc, line, looks, other.as_slice());
         }
     }
-    Ok(())
 }
 
 #[test]
-fn streams_with_another_byte_are_listed(rt: HostRuntime) -> Result<(), Fail> {
+fn streams_with_another_byte_are_listed(rt: HostRuntime) {
     changes_are_answered(&rt, rt.alloc(), LIST, LISTED)
 }
 
 #[test]
-fn streams_with_another_byte_are_shown(rt: HostRuntime) -> Result<(), Fail> {
+fn streams_with_another_byte_are_shown(rt: HostRuntime) {
     changes_are_answered(&rt, rt.alloc(), DUMP, SHOWN)
 }
 
 #[test]
-fn streams_with_another_byte_are_checked(rt: HostRuntime) -> Result<(), Fail> {
+fn streams_with_another_byte_are_checked(rt: HostRuntime) {
     changes_are_answered(&rt, rt.alloc(), CHECK, CHECKED)
 }

@@ -1,7 +1,6 @@
 use crate::running::{Asked, Edges, Wanted, done, ends_as, sound};
 use std::alloc::Global;
 use std::process::Abort;
-use std::test::Fail;
 use std::thread::Threads;
 
 /// How many reads of so many bytes take a source to its end: the last gives none.
@@ -28,7 +27,7 @@ pub(crate) fn each_read_fails<R: Threads + Sync + Abort>(
     most: usize,
     texts: [&str; 3],
     whole: &[u8],
-) -> Result<(), Fail> {
+) {
     let reads = reads_of(asked.first.len(), most);
     for read in 0..reads {
         let came = read.saturating_mul(most).min(asked.first.len());
@@ -37,7 +36,7 @@ pub(crate) fn each_read_fails<R: Threads + Sync + Abort>(
             note: "read first\n",
             out: text_of(came, texts).as_bytes(),
         };
-        ends_as(rt, alloc, asked, read_at(most, read), wanted)?;
+        ends_as(rt, alloc, asked, read_at(most, read), wanted);
     }
     ends_as(rt, alloc, asked, read_at(most, reads), done(whole))
 }
@@ -57,7 +56,7 @@ pub(crate) fn each_font_read_fails<R: Threads + Sync + Abort>(
     asked: &Asked<'_>,
     most: usize,
     whole: &[u8],
-) -> Result<(), Fail> {
+) {
     let reads = reads_of(asked.second.len(), most);
     for read in 0..reads {
         let wanted = Wanted {
@@ -65,7 +64,7 @@ pub(crate) fn each_font_read_fails<R: Threads + Sync + Abort>(
             note: "read second\n",
             out: &[],
         };
-        ends_as(rt, alloc, asked, font_read_at(most, read), wanted)?;
+        ends_as(rt, alloc, asked, font_read_at(most, read), wanted);
     }
     ends_as(rt, alloc, asked, font_read_at(most, reads), done(whole))
 }
@@ -86,7 +85,7 @@ pub(crate) fn each_write_fails<R: Threads + Sync + Abort>(
     asked: &Asked<'_>,
     most: usize,
     whole: &[u8],
-) -> Result<(), Fail> {
+) {
     let writes = whole.len().div_ceil(most.max(1));
     for write in 0..writes {
         let wanted = Wanted {
@@ -94,7 +93,7 @@ pub(crate) fn each_write_fails<R: Threads + Sync + Abort>(
             note: "write out\n",
             out: whole.get(..write.saturating_mul(most)).unwrap_or(&[]),
         };
-        ends_as(rt, alloc, asked, write_at(most, write), wanted)?;
+        ends_as(rt, alloc, asked, write_at(most, write), wanted);
     }
     ends_as(rt, alloc, asked, write_at(most, writes), done(whole))
 }
@@ -114,7 +113,7 @@ pub(crate) fn each_note_fails<R: Threads + Sync + Abort>(
     alloc: Global,
     asked: &Asked<'_>,
     wanted: Wanted<'_>,
-) -> Result<(), Fail> {
+) {
     for write in 0..wanted.note.len() {
         let edges = Edges {
             bad_note: (write as u64).saturating_add(1),
@@ -124,7 +123,6 @@ pub(crate) fn each_note_fails<R: Threads + Sync + Abort>(
             note: wanted.note.get(..write).unwrap_or("none"),
             ..wanted
         };
-        ends_as(rt, alloc, asked, edges, part)?;
+        ends_as(rt, alloc, asked, edges, part);
     }
-    Ok(())
 }

@@ -2,8 +2,8 @@ use crate::failing::{each_font_read_fails, each_read_fails};
 use crate::running::{Asked, reading};
 use samples::first_run::*;
 use std::alloc::Global;
+use std::panic::Expect;
 use std::process::Abort;
-use std::test::Fail;
 use std::thread::Threads;
 
 /// The first run's script and a font.
@@ -23,17 +23,16 @@ fn each_stream_read_fails<R: Threads + Sync + Abort>(
     line: &str,
     texts: [&str; 3],
     whole: &str,
-) -> Result<(), Fail> {
-    let stream = stream(alloc)?;
+) {
+    let stream = stream(alloc).expect(rt, "memory");
     let asked = reading(line, stream.as_slice());
     for most in [1, 7, 188, 100_000] {
-        each_read_fails(rt, alloc, &asked, most, texts, whole.as_bytes())?;
+        each_read_fails(rt, alloc, &asked, most, texts, whole.as_bytes());
     }
-    Ok(())
 }
 
 #[test]
-fn each_read_of_a_list_fails(rt: HostRuntime) -> Result<(), Fail> {
+fn each_read_of_a_list_fails(rt: HostRuntime) {
     each_stream_read_fails(
         &rt,
         rt.alloc(),
@@ -45,12 +44,12 @@ fn each_read_of_a_list_fails(rt: HostRuntime) -> Result<(), Fail> {
 
 /// The first tick is told once the second set has come.
 #[test]
-fn each_read_of_a_dump_fails(rt: HostRuntime) -> Result<(), Fail> {
+fn each_read_of_a_dump_fails(rt: HostRuntime) {
     each_stream_read_fails(&rt, rt.alloc(), DUMP, ["", "", PICTURE], PICTURES)
 }
 
 #[test]
-fn each_read_of_a_check_fails(rt: HostRuntime) -> Result<(), Fail> {
+fn each_read_of_a_check_fails(rt: HostRuntime) {
     each_stream_read_fails(
         &rt,
         rt.alloc(),
@@ -61,18 +60,17 @@ fn each_read_of_a_check_fails(rt: HostRuntime) -> Result<(), Fail> {
 }
 
 #[test]
-fn each_read_of_a_compiled_script_fails(rt: HostRuntime) -> Result<(), Fail> {
+fn each_read_of_a_compiled_script_fails(rt: HostRuntime) {
     let alloc = rt.alloc();
-    let stream = stream(alloc)?;
+    let stream = stream(alloc).expect(&rt, "memory");
     let asked = reading(COMPILE, SCRIPT.as_bytes());
     for most in [1, 7, 100_000] {
-        each_read_fails(&rt, alloc, &asked, most, ["", "", ""], stream.as_slice())?;
+        each_read_fails(&rt, alloc, &asked, most, ["", "", ""], stream.as_slice());
     }
-    Ok(())
 }
 
 #[test]
-fn each_read_of_an_authored_script_fails(rt: HostRuntime) -> Result<(), Fail> {
+fn each_read_of_an_authored_script_fails(rt: HostRuntime) {
     let asked = reading(EXPECT, SCRIPT.as_bytes());
     for most in [1, 7, 100_000] {
         each_read_fails(
@@ -82,27 +80,24 @@ fn each_read_of_an_authored_script_fails(rt: HostRuntime) -> Result<(), Fail> {
             most,
             ["", "", ""],
             PICTURES.as_bytes(),
-        )?;
+        );
     }
-    Ok(())
 }
 
 #[test]
-fn each_read_of_a_compiled_font_fails(rt: HostRuntime) -> Result<(), Fail> {
+fn each_read_of_a_compiled_font_fails(rt: HostRuntime) {
     let alloc = rt.alloc();
-    let stream = stream(alloc)?;
+    let stream = stream(alloc).expect(&rt, "memory");
     for most in [1, 7, 100_000] {
         let asked = with_font(COMPILE_WITH_FONT);
-        each_font_read_fails(&rt, alloc, &asked, most, stream.as_slice())?;
+        each_font_read_fails(&rt, alloc, &asked, most, stream.as_slice());
     }
-    Ok(())
 }
 
 #[test]
-fn each_read_of_an_authored_font_fails(rt: HostRuntime) -> Result<(), Fail> {
+fn each_read_of_an_authored_font_fails(rt: HostRuntime) {
     for most in [1, 7, 100_000] {
         let asked = with_font(EXPECT_WITH_FONT);
-        each_font_read_fails(&rt, rt.alloc(), &asked, most, PICTURES.as_bytes())?;
+        each_font_read_fails(&rt, rt.alloc(), &asked, most, PICTURES.as_bytes());
     }
-    Ok(())
 }

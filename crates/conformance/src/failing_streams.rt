@@ -6,8 +6,8 @@ use crate::running::{Asked, Edges, Wanted, done, ends_as, reading, run, sound};
 use crate::same::same;
 use samples::first_run::{SCRIPT, stream};
 use std::alloc::Global;
+use std::panic::Expect;
 use std::process::Abort;
-use std::test::Fail;
 use std::thread::Threads;
 use sub_base::MemSink;
 
@@ -39,11 +39,11 @@ pub(crate) fn whole_of<R: Threads + Sync + Abort>(
     alloc: Global,
     asked: &Asked<'_>,
     size: usize,
-) -> Result<MemSink, Fail> {
-    let ended = run(rt, alloc, asked, sound(100_000))?;
+) -> MemSink {
+    let ended = run(rt, alloc, asked, sound(100_000));
     same(rt, ended.code, 0);
     same(rt, ended.out.written().len(), size);
-    Ok(ended.out)
+    ended.out
 }
 
 /// Each read of both sources fails in turn: nothing is put out. Each write of the output fails, and
@@ -53,13 +53,13 @@ fn each_call_fails<R: Threads + Sync + Abort>(
     alloc: Global,
     asked: &Asked<'_>,
     whole: &[u8],
-) -> Result<(), Fail> {
+) {
     for most in [7, 188, 100_000] {
-        each_read_fails(rt, alloc, asked, most, ["", "", ""], whole)?;
-        each_font_read_fails(rt, alloc, asked, most, whole)?;
-        each_write_fails(rt, alloc, asked, most, whole)?;
+        each_read_fails(rt, alloc, asked, most, ["", "", ""], whole);
+        each_font_read_fails(rt, alloc, asked, most, whole);
+        each_write_fails(rt, alloc, asked, most, whole);
     }
-    each_note_fails(rt, alloc, asked, untold(whole))?;
+    each_note_fails(rt, alloc, asked, untold(whole));
     ends_with_or_without_memory(rt, alloc, asked, whole)
 }
 
@@ -72,37 +72,37 @@ fn untold(whole: &[u8]) -> Wanted<'_> {
 }
 
 #[test]
-fn each_call_of_a_pair_fails(rt: HostRuntime) -> Result<(), Fail> {
+fn each_call_of_a_pair_fails(rt: HostRuntime) {
     let alloc = rt.alloc();
     let asked = Asked {
         line: PAIR,
         first: SCRIPT.as_bytes(),
         second: SCRIPT.as_bytes(),
     };
-    let whole = whole_of(&rt, alloc, &asked, 376)?;
+    let whole = whole_of(&rt, alloc, &asked, 376);
     each_call_fails(&rt, alloc, &asked, whole.written())
 }
 
 #[test]
-fn each_call_of_a_splice_fails(rt: HostRuntime) -> Result<(), Fail> {
+fn each_call_of_a_splice_fails(rt: HostRuntime) {
     let alloc = rt.alloc();
-    let stream = stream(alloc)?;
+    let stream = stream(alloc).expect(&rt, "memory");
     let asked = Asked {
         line: SPLICE,
         first: stream.as_slice(),
         second: stream.as_slice(),
     };
-    let whole = whole_of(&rt, alloc, &asked, 752)?;
+    let whole = whole_of(&rt, alloc, &asked, 752);
     each_call_fails(&rt, alloc, &asked, whole.written())
 }
 
 /// What is due has been put out by the time that the script cannot be read on: nothing before the
 /// tick has come, and from then on the packets up to it.
 #[test]
-fn each_read_of_a_live_script_fails(rt: HostRuntime) -> Result<(), Fail> {
+fn each_read_of_a_live_script_fails(rt: HostRuntime) {
     let alloc = rt.alloc();
     let asked = reading(LIVE, BEHIND_A_TICK.as_bytes());
-    let whole = whole_of(&rt, alloc, &asked, SENT_LIVE)?;
+    let whole = whole_of(&rt, alloc, &asked, SENT_LIVE);
     for most in [7, 100, 4_096] {
         let reads = asked.first.len().div_ceil(most);
         for read in 0..reads {
@@ -120,25 +120,24 @@ fn each_read_of_a_live_script_fails(rt: HostRuntime) -> Result<(), Fail> {
                 bad_read: (read as u64).saturating_add(1),
                 ..sound(100_000)
             };
-            ends_as(&rt, alloc, &asked, edges, wanted)?;
+            ends_as(&rt, alloc, &asked, edges, wanted);
         }
     }
-    Ok(())
 }
 
 #[test]
-fn each_write_of_a_live_script_fails(rt: HostRuntime) -> Result<(), Fail> {
+fn each_write_of_a_live_script_fails(rt: HostRuntime) {
     let alloc = rt.alloc();
     let asked = reading(LIVE, BEHIND_A_TICK.as_bytes());
-    let whole = whole_of(&rt, alloc, &asked, SENT_LIVE)?;
-    each_write_fails(&rt, alloc, &asked, 188, whole.written())?;
+    let whole = whole_of(&rt, alloc, &asked, SENT_LIVE);
+    each_write_fails(&rt, alloc, &asked, 188, whole.written());
     each_note_fails(&rt, alloc, &asked, untold(whole.written()))
 }
 
 #[test]
-fn memory_of_a_live_script(rt: HostRuntime) -> Result<(), Fail> {
+fn memory_of_a_live_script(rt: HostRuntime) {
     let alloc = rt.alloc();
     let asked = reading(LIVE, SCRIPT.as_bytes());
-    let whole = whole_of(&rt, alloc, &asked, 376)?;
+    let whole = whole_of(&rt, alloc, &asked, 376);
     ends_with_or_without_memory(&rt, alloc, &asked, whole.written())
 }

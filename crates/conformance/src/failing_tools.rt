@@ -4,9 +4,10 @@ use crate::running::{Asked, Edges, Wanted, done, ends_as, reading, run, sound};
 use crate::same::same;
 use samples::streams::packet_of;
 use std::alloc::Global;
+use std::panic::Expect;
 use std::process::Abort;
-use std::test::Fail;
 use std::thread::Threads;
+use sub_base::NoMemory;
 
 const MUX: &str = "mux 1 100 256 1 eng 2 101 257 7 fre eng.ts fre.ts both.ts";
 
@@ -52,7 +53,7 @@ fn second_packets() -> [[u8; 188]; 2] {
     ]
 }
 
-fn stream_of(alloc: Global, packets: &[[u8; 188]]) -> Result<Vec<u8>, Fail> {
+fn stream_of(alloc: Global, packets: &[[u8; 188]]) -> Result<Vec<u8>, NoMemory> {
     let mut stream = Vec::new(alloc);
     for packet in packets {
         stream.extend_from_slice(packet)?;
@@ -69,7 +70,7 @@ fn again(head: &[u8]) -> [u8; 188] {
 
 /// Both streams in one multiplex: the tables, and two frames of a table, a packet of the first
 /// stream and one of the second.
-fn multiplex(alloc: Global) -> Result<Vec<u8>, Fail> {
+fn multiplex(alloc: Global) -> Result<Vec<u8>, NoMemory> {
     let [first, second] = first_packets();
     let [beside_first, beside_second] = second_packets();
     stream_of(
@@ -96,12 +97,11 @@ fn ends_within<R: Threads + Sync + Abort>(
     edges: Edges,
     note: &str,
     whole: &[u8],
-) -> Result<(), Fail> {
-    let ended = run(rt, alloc, asked, edges)?;
+) {
+    let ended = run(rt, alloc, asked, edges);
     same(rt, ended.notes.written(), note.as_bytes());
     same(rt, ended.code, 5);
     assert!(rt; whole.starts_with(ended.out.written()));
-    Ok(())
 }
 
 /// Each read of each source fails in turn, with a byte a call, a few, a packet, and all at once.
@@ -110,7 +110,7 @@ fn each_read_fails<R: Threads + Sync + Abort>(
     alloc: Global,
     asked: &Asked<'_>,
     whole: &[u8],
-) -> Result<(), Fail> {
+) {
     for most in [1, 7, 188, 100_000] {
         let edges = Edges {
             most_read: most,
@@ -121,7 +121,7 @@ fn each_read_fails<R: Threads + Sync + Abort>(
                 bad_read: (read as u64).saturating_add(1),
                 ..edges
             };
-            ends_within(rt, alloc, asked, bad, "read first\n", whole)?;
+            ends_within(rt, alloc, asked, bad, "read first\n", whole);
         }
         if !asked.second.is_empty() {
             for read in 0..asked.second.len().div_ceil(most).saturating_add(1) {
@@ -129,12 +129,11 @@ fn each_read_fails<R: Threads + Sync + Abort>(
                     bad_font_read: (read as u64).saturating_add(1),
                     ..edges
                 };
-                ends_within(rt, alloc, asked, bad, "read second\n", whole)?;
+                ends_within(rt, alloc, asked, bad, "read second\n", whole);
             }
         }
-        ends_as(rt, alloc, asked, edges, done(whole))?;
+        ends_as(rt, alloc, asked, edges, done(whole));
     }
-    Ok(())
 }
 
 /// Each write of the output and of the status' line fails in turn.
@@ -143,9 +142,9 @@ fn each_write_and_note_fails<R: Threads + Sync + Abort>(
     alloc: Global,
     asked: &Asked<'_>,
     whole: &[u8],
-) -> Result<(), Fail> {
+) {
     for most in [7, 188, 100_000] {
-        each_write_fails(rt, alloc, asked, most, whole)?;
+        each_write_fails(rt, alloc, asked, most, whole);
     }
     let untold = Wanted {
         code: 6,
@@ -155,23 +154,28 @@ fn each_write_and_note_fails<R: Threads + Sync + Abort>(
 }
 
 #[test]
-fn each_read_of_two_streams_fails(rt: HostRuntime) -> Result<(), Fail> {
+fn each_read_of_two_streams_fails(rt: HostRuntime) {
     let alloc = rt.alloc();
-    let first = stream_of(alloc, &first_packets())?;
-    let second = stream_of(alloc, &second_packets())?;
+    let first = stream_of(alloc, &first_packets()).expect(&rt, "memory");
+    let second = stream_of(alloc, &second_packets()).expect(&rt, "memory");
     let asked = Asked {
         line: MUX,
         first: first.as_slice(),
         second: second.as_slice(),
     };
-    each_read_fails(&rt, alloc, &asked, multiplex(alloc)?.as_slice())
+    each_read_fails(
+        &rt,
+        alloc,
+        &asked,
+        multiplex(alloc).expect(&rt, "memory").as_slice(),
+    )
 }
 
 #[test]
-fn each_read_of_a_multiplex_fails(rt: HostRuntime) -> Result<(), Fail> {
+fn each_read_of_a_multiplex_fails(rt: HostRuntime) {
     let alloc = rt.alloc();
-    let both = multiplex(alloc)?;
-    let first = stream_of(alloc, &first_packets())?;
+    let both = multiplex(alloc).expect(&rt, "memory");
+    let first = stream_of(alloc, &first_packets()).expect(&rt, "memory");
     each_read_fails(
         &rt,
         alloc,
@@ -181,23 +185,28 @@ fn each_read_of_a_multiplex_fails(rt: HostRuntime) -> Result<(), Fail> {
 }
 
 #[test]
-fn each_write_of_a_multiplex_fails(rt: HostRuntime) -> Result<(), Fail> {
+fn each_write_of_a_multiplex_fails(rt: HostRuntime) {
     let alloc = rt.alloc();
-    let first = stream_of(alloc, &first_packets())?;
-    let second = stream_of(alloc, &second_packets())?;
+    let first = stream_of(alloc, &first_packets()).expect(&rt, "memory");
+    let second = stream_of(alloc, &second_packets()).expect(&rt, "memory");
     let asked = Asked {
         line: MUX,
         first: first.as_slice(),
         second: second.as_slice(),
     };
-    each_write_and_note_fails(&rt, alloc, &asked, multiplex(alloc)?.as_slice())
+    each_write_and_note_fails(
+        &rt,
+        alloc,
+        &asked,
+        multiplex(alloc).expect(&rt, "memory").as_slice(),
+    )
 }
 
 #[test]
-fn each_write_of_taken_packets_fails(rt: HostRuntime) -> Result<(), Fail> {
+fn each_write_of_taken_packets_fails(rt: HostRuntime) {
     let alloc = rt.alloc();
-    let both = multiplex(alloc)?;
-    let first = stream_of(alloc, &first_packets())?;
+    let both = multiplex(alloc).expect(&rt, "memory");
+    let first = stream_of(alloc, &first_packets()).expect(&rt, "memory");
     each_write_and_note_fails(
         &rt,
         alloc,
@@ -207,23 +216,28 @@ fn each_write_of_taken_packets_fails(rt: HostRuntime) -> Result<(), Fail> {
 }
 
 #[test]
-fn memory_of_mux(rt: HostRuntime) -> Result<(), Fail> {
+fn memory_of_mux(rt: HostRuntime) {
     let alloc = rt.alloc();
-    let first = stream_of(alloc, &first_packets())?;
-    let second = stream_of(alloc, &second_packets())?;
+    let first = stream_of(alloc, &first_packets()).expect(&rt, "memory");
+    let second = stream_of(alloc, &second_packets()).expect(&rt, "memory");
     let asked = Asked {
         line: MUX,
         first: first.as_slice(),
         second: second.as_slice(),
     };
-    ends_with_or_without_memory(&rt, alloc, &asked, multiplex(alloc)?.as_slice())
+    ends_with_or_without_memory(
+        &rt,
+        alloc,
+        &asked,
+        multiplex(alloc).expect(&rt, "memory").as_slice(),
+    )
 }
 
 #[test]
-fn memory_of_take(rt: HostRuntime) -> Result<(), Fail> {
+fn memory_of_take(rt: HostRuntime) {
     let alloc = rt.alloc();
-    let both = multiplex(alloc)?;
-    let first = stream_of(alloc, &first_packets())?;
+    let both = multiplex(alloc).expect(&rt, "memory");
+    let first = stream_of(alloc, &first_packets()).expect(&rt, "memory");
     ends_with_or_without_memory(
         &rt,
         alloc,

@@ -3,8 +3,8 @@ use crate::running::{Edges, Wanted, done, ends_as, reading, run, sound};
 use crate::same::same;
 use samples::first_run::*;
 use std::alloc::Global;
+use std::panic::Expect;
 use std::process::Abort;
-use std::test::Fail;
 use std::thread::Threads;
 
 /// Over the first run's stream: each write fails in turn, with a byte a call, a few, and all at
@@ -14,48 +14,45 @@ fn each_stream_write_fails<R: Threads + Sync + Abort>(
     alloc: Global,
     line: &str,
     whole: &str,
-) -> Result<(), Fail> {
-    let stream = stream(alloc)?;
+) {
+    let stream = stream(alloc).expect(rt, "memory");
     let asked = reading(line, stream.as_slice());
     for most in [1, 7, 100_000] {
-        each_write_fails(rt, alloc, &asked, most, whole.as_bytes())?;
+        each_write_fails(rt, alloc, &asked, most, whole.as_bytes());
     }
-    Ok(())
 }
 
 #[test]
-fn each_write_of_a_list_fails(rt: HostRuntime) -> Result<(), Fail> {
+fn each_write_of_a_list_fails(rt: HostRuntime) {
     each_stream_write_fails(&rt, rt.alloc(), LIST, BOTH_LINES)
 }
 
 #[test]
-fn each_write_of_a_dump_fails(rt: HostRuntime) -> Result<(), Fail> {
+fn each_write_of_a_dump_fails(rt: HostRuntime) {
     each_stream_write_fails(&rt, rt.alloc(), DUMP, PICTURES)
 }
 
 #[test]
-fn each_write_of_a_check_fails(rt: HostRuntime) -> Result<(), Fail> {
+fn each_write_of_a_check_fails(rt: HostRuntime) {
     each_stream_write_fails(&rt, rt.alloc(), CHECK, BOTH_CHECKED)
 }
 
 #[test]
-fn each_write_of_compiled_packets_fails(rt: HostRuntime) -> Result<(), Fail> {
+fn each_write_of_compiled_packets_fails(rt: HostRuntime) {
     let alloc = rt.alloc();
-    let stream = stream(alloc)?;
+    let stream = stream(alloc).expect(&rt, "memory");
     let asked = reading(COMPILE, SCRIPT.as_bytes());
     for most in [1, 7, 100_000] {
-        each_write_fails(&rt, alloc, &asked, most, stream.as_slice())?;
+        each_write_fails(&rt, alloc, &asked, most, stream.as_slice());
     }
-    Ok(())
 }
 
 #[test]
-fn each_write_of_authored_pictures_fails(rt: HostRuntime) -> Result<(), Fail> {
+fn each_write_of_authored_pictures_fails(rt: HostRuntime) {
     let asked = reading(EXPECT, SCRIPT.as_bytes());
     for most in [1, 7, 100_000] {
-        each_write_fails(&rt, rt.alloc(), &asked, most, PICTURES.as_bytes())?;
+        each_write_fails(&rt, rt.alloc(), &asked, most, PICTURES.as_bytes());
     }
-    Ok(())
 }
 
 /// A cue of forty seconds, whose nine sets stand in slots up to 4,596.
@@ -69,10 +66,10 @@ const FORTY_SECONDS: &str = "origin,0\n\
 
 /// Its packets go out in many pieces; whichever fails, no later one follows.
 #[test]
-fn each_write_of_many_packets_fails(rt: HostRuntime) -> Result<(), Fail> {
+fn each_write_of_many_packets_fails(rt: HostRuntime) {
     let alloc = rt.alloc();
     let asked = reading(COMPILE, FORTY_SECONDS.as_bytes());
-    let sent = run(&rt, alloc, &asked, sound(100_000))?;
+    let sent = run(&rt, alloc, &asked, sound(100_000));
     let packets = sent.out.written();
     same(&rt, packets.len(), 4_597 * 188);
     each_write_fails(&rt, alloc, &asked, 65_424, packets)
@@ -85,26 +82,26 @@ fn goes_byte_by_byte<R: Threads + Sync + Abort>(
     line: &str,
     first: &[u8],
     whole: &[u8],
-) -> Result<(), Fail> {
+) {
     ends_as(rt, alloc, &reading(line, first), sound(1), done(whole))
 }
 
 #[test]
-fn scripts_go_byte_by_byte(rt: HostRuntime) -> Result<(), Fail> {
+fn scripts_go_byte_by_byte(rt: HostRuntime) {
     let alloc = rt.alloc();
     let script = SCRIPT.as_bytes();
-    let stream = stream(alloc)?;
-    goes_byte_by_byte(&rt, alloc, COMPILE, script, stream.as_slice())?;
+    let stream = stream(alloc).expect(&rt, "memory");
+    goes_byte_by_byte(&rt, alloc, COMPILE, script, stream.as_slice());
     goes_byte_by_byte(&rt, alloc, EXPECT, script, PICTURES.as_bytes())
 }
 
 #[test]
-fn streams_go_byte_by_byte(rt: HostRuntime) -> Result<(), Fail> {
+fn streams_go_byte_by_byte(rt: HostRuntime) {
     let alloc = rt.alloc();
-    let stream = stream(alloc)?;
+    let stream = stream(alloc).expect(&rt, "memory");
     let stream = stream.as_slice();
-    goes_byte_by_byte(&rt, alloc, LIST, stream, BOTH_LINES.as_bytes())?;
-    goes_byte_by_byte(&rt, alloc, DUMP, stream, PICTURES.as_bytes())?;
+    goes_byte_by_byte(&rt, alloc, LIST, stream, BOTH_LINES.as_bytes());
+    goes_byte_by_byte(&rt, alloc, DUMP, stream, PICTURES.as_bytes());
     goes_byte_by_byte(&rt, alloc, CHECK, stream, BOTH_CHECKED.as_bytes())
 }
 
@@ -115,7 +112,7 @@ fn is_done_untold<R: Threads + Sync + Abort>(
     line: &str,
     first: &[u8],
     whole: &[u8],
-) -> Result<(), Fail> {
+) {
     let wanted = Wanted {
         code: 6,
         ..done(whole)
@@ -124,21 +121,21 @@ fn is_done_untold<R: Threads + Sync + Abort>(
 }
 
 #[test]
-fn commands_that_are_done_are_not_told(rt: HostRuntime) -> Result<(), Fail> {
+fn commands_that_are_done_are_not_told(rt: HostRuntime) {
     let alloc = rt.alloc();
-    let stream = stream(alloc)?;
+    let stream = stream(alloc).expect(&rt, "memory");
     let packets = stream.as_slice();
     let script = SCRIPT.as_bytes();
-    is_done_untold(&rt, alloc, COMPILE, script, packets)?;
-    is_done_untold(&rt, alloc, EXPECT, script, PICTURES.as_bytes())?;
-    is_done_untold(&rt, alloc, LIST, packets, BOTH_LINES.as_bytes())?;
-    is_done_untold(&rt, alloc, DUMP, packets, PICTURES.as_bytes())?;
+    is_done_untold(&rt, alloc, COMPILE, script, packets);
+    is_done_untold(&rt, alloc, EXPECT, script, PICTURES.as_bytes());
+    is_done_untold(&rt, alloc, LIST, packets, BOTH_LINES.as_bytes());
+    is_done_untold(&rt, alloc, DUMP, packets, PICTURES.as_bytes());
     is_done_untold(&rt, alloc, CHECK, packets, BOTH_CHECKED.as_bytes())
 }
 
 /// Any other status stays where its line cannot be written.
 #[test]
-fn refusals_stay_where_they_are_not_told(rt: HostRuntime) -> Result<(), Fail> {
+fn refusals_stay_where_they_are_not_told(rt: HostRuntime) {
     let refused = |code, note| Wanted {
         code,
         note,
@@ -153,16 +150,15 @@ fn refusals_stay_where_they_are_not_told(rt: HostRuntime) -> Result<(), Fail> {
         (reading(CHECK, &[2; 200]), refused(4, "stream 0 NoSync\n")),
     ];
     for (asked, wanted) in rows {
-        each_note_fails(&rt, rt.alloc(), &asked, wanted)?;
+        each_note_fails(&rt, rt.alloc(), &asked, wanted);
     }
-    Ok(())
 }
 
 /// The output fails, and then its line too: the first failure is told.
 #[test]
-fn both_sinks_fail(rt: HostRuntime) -> Result<(), Fail> {
+fn both_sinks_fail(rt: HostRuntime) {
     let alloc = rt.alloc();
-    let stream = stream(alloc)?;
+    let stream = stream(alloc).expect(&rt, "memory");
     for line in [LIST, DUMP, CHECK] {
         let edges = Edges {
             bad_write: 1,
@@ -174,7 +170,6 @@ fn both_sinks_fail(rt: HostRuntime) -> Result<(), Fail> {
             note: "write ",
             out: &[],
         };
-        ends_as(&rt, alloc, &reading(line, stream.as_slice()), edges, wanted)?;
+        ends_as(&rt, alloc, &reading(line, stream.as_slice()), edges, wanted);
     }
-    Ok(())
 }

@@ -2,7 +2,8 @@ use crate::running::{Wanted, done, ends_as, reading, sound};
 use samples::first_run::{CHECK, LIST};
 use samples::streams::{ENCODER_UNIT, Sent, packet_of, put_unit};
 use std::alloc::Global;
-use std::test::Fail;
+use std::panic::Expect;
+use sub_base::NoMemory;
 
 const CHECK_LARGE: &str = "check large 0 256 1 in.ts out.txt";
 
@@ -17,7 +18,7 @@ const OPEN: [u8; 8] = [0x0F, 0x10, 0x00, 0x01, 0x00, 0x02, 0x0C, 0x0B];
 const END: [u8; 6] = [0x0F, 0x80, 0x00, 0x01, 0x00, 0x00];
 
 /// So many units with a page each, at times that lie so far from each other.
-fn pages(alloc: Global, count: u32, step: u32) -> Result<Vec<u8>, Fail> {
+fn pages(alloc: Global, count: u32, step: u32) -> Result<Vec<u8>, NoMemory> {
     let mut sent = Sent::new(Vec::new(alloc));
     let mut unit = Vec::new(alloc);
     let mut pts = 90_000u64;
@@ -32,9 +33,9 @@ fn pages(alloc: Global, count: u32, step: u32) -> Result<Vec<u8>, Fail> {
 /// One set goes on for 4,000 units. With the 3,073rd it has more segments than the coded data
 /// buffer has bytes: 24,584. Before, as the 984th comes, the buffer has 25 bytes of each.
 #[test]
-fn a_set_that_never_ends(rt: HostRuntime) -> Result<(), Fail> {
+fn a_set_that_never_ends(rt: HostRuntime) {
     let alloc = rt.alloc();
-    let stream = pages(alloc, 4_000, 0)?;
+    let stream = pages(alloc, 4_000, 0).expect(&rt, "memory");
     let stream = stream.as_slice();
     let checked = b"set 90000 broken 76825 2242585\npeak 24600\nbreach coded 983 24600\n";
     ends_as(
@@ -43,7 +44,7 @@ fn a_set_that_never_ends(rt: HostRuntime) -> Result<(), Fail> {
         &reading(CHECK, stream),
         sound(10_000),
         done(checked),
-    )?;
+    );
     let shown = done(b"picture 90000 clear\n");
     ends_as(&rt, alloc, &reading(DUMP, stream), sound(10_000), shown)
 }
@@ -51,9 +52,9 @@ fn a_set_that_never_ends(rt: HostRuntime) -> Result<(), Fail> {
 /// Just as many segments as the buffer has bytes are a set that the end of the stream makes ready.
 /// Its page is there twice.
 #[test]
-fn a_set_as_long_as_the_buffer(rt: HostRuntime) -> Result<(), Fail> {
+fn a_set_as_long_as_the_buffer(rt: HostRuntime) {
     let alloc = rt.alloc();
-    let stream = pages(alloc, 3_072, 0)?;
+    let stream = pages(alloc, 3_072, 0).expect(&rt, "memory");
     let checked = b"set 90000 broken 76800 2241855\npeak 24600\nbreach coded 983 24600\n";
     let asked = reading(CHECK, stream.as_slice());
     ends_as(&rt, alloc, &asked, sound(10_000), done(checked))
@@ -61,7 +62,7 @@ fn a_set_as_long_as_the_buffer(rt: HostRuntime) -> Result<(), Fail> {
 
 /// No set has an end, and each is made ready by the next one; the last by the end of the stream. A
 /// set is done 25 ticks after its last packet came, or the one before it was shown.
-fn open_sets(alloc: Global, count: u32, step: u32) -> Result<String, Fail> {
+fn open_sets(alloc: Global, count: u32, step: u32) -> Result<String, NoMemory> {
     let mut text = String::new(alloc);
     let mut pts = 90_000u64;
     let mut shown = 0u64;
@@ -78,19 +79,20 @@ fn open_sets(alloc: Global, count: u32, step: u32) -> Result<String, Fail> {
 
 /// A hundred sets, each a slot's ticks behind the one before it.
 #[test]
-fn sets_without_an_end(rt: HostRuntime) -> Result<(), Fail> {
+fn sets_without_an_end(rt: HostRuntime) {
     let alloc = rt.alloc();
-    let stream = pages(alloc, 100, 705)?;
-    let mut text = open_sets(alloc, 100, 705)?;
+    let stream = pages(alloc, 100, 705).expect(&rt, "memory");
+    let mut text = open_sets(alloc, 100, 705).expect(&rt, "memory");
     // The first one leaves the buffer at once. All others wait for the time of the set before them,
     // which is behind the last packet.
-    text.push_str("peak 2475\nbreach none\n")?;
+    text.push_str("peak 2475\nbreach none\n")
+        .expect(&rt, "memory");
     let asked = reading(CHECK, stream.as_slice());
     ends_as(&rt, alloc, &asked, sound(10_000), done(text.as_bytes()))
 }
 
 /// Regions of 4 by 2 pixels, so many from that one on, whose ids go round.
-fn put_regions(segments: &mut Vec<u8>, first: u32, count: u32) -> Result<(), Fail> {
+fn put_regions(segments: &mut Vec<u8>, first: u32, count: u32) -> Result<(), NoMemory> {
     segments.clear();
     for place in 0..count {
         let id = (first.wrapping_add(place) % 256) as u8;
@@ -104,7 +106,7 @@ fn put_regions(segments: &mut Vec<u8>, first: u32, count: u32) -> Result<(), Fai
 
 /// 65,535 regions in 17 units of one time: 4,095 in each, of 357 packets, and 15 in the last, of
 /// two.
-fn regions(alloc: Global) -> Result<Vec<u8>, Fail> {
+fn regions(alloc: Global) -> Result<Vec<u8>, NoMemory> {
     let mut sent = Sent::new(Vec::new(alloc));
     let mut unit = Vec::new(alloc);
     let mut segments = Vec::new(alloc);
@@ -124,7 +126,7 @@ fn push_lines(
     number: u32,
     length: u32,
     count: u32,
-) -> Result<(), Fail> {
+) -> Result<(), NoMemory> {
     text.push_str(&format!(in alloc; "unit {number} pts 90000 length {length}\n")?)?;
     for place in 0..count {
         let byte = place.wrapping_mul(16).wrapping_add(2);
@@ -139,14 +141,14 @@ fn last_packet(units: u32) -> u32 {
 }
 
 #[test]
-fn sixty_five_thousand_regions_are_listed(rt: HostRuntime) -> Result<(), Fail> {
+fn sixty_five_thousand_regions_are_listed(rt: HostRuntime) {
     let alloc = rt.alloc();
-    let stream = regions(alloc)?;
+    let stream = regions(alloc).expect(&rt, "memory");
     let mut text = String::new(alloc);
     for place in 0..16u32 {
-        push_lines(alloc, &mut text, last_packet(place), 65_537, 4_095)?;
+        push_lines(alloc, &mut text, last_packet(place), 65_537, 4_095).expect(&rt, "memory");
     }
-    push_lines(alloc, &mut text, 5_713, 257, 15)?;
+    push_lines(alloc, &mut text, 5_713, 257, 15).expect(&rt, "memory");
     let asked = reading(LIST, stream.as_slice());
     ends_as(&rt, alloc, &asked, sound(100_000), done(text.as_bytes()))
 }
@@ -154,9 +156,9 @@ fn sixty_five_thousand_regions_are_listed(rt: HostRuntime) -> Result<(), Fail> {
 /// With the fifth unit the set has more segments than the largest buffer has bytes. The buffer is
 /// full with the last packet of the fourth unit: the level is then four units of 65,537 bytes.
 #[test]
-fn sixty_five_thousand_regions_are_checked(rt: HostRuntime) -> Result<(), Fail> {
+fn sixty_five_thousand_regions_are_checked(rt: HostRuntime) {
     let alloc = rt.alloc();
-    let stream = regions(alloc)?;
+    let stream = regions(alloc).expect(&rt, "memory");
     let stream = stream.as_slice();
     let checked = b"set 90000 broken 327685 488245\npeak 262148\nbreach coded 1427 262148\n";
     ends_as(
@@ -165,7 +167,7 @@ fn sixty_five_thousand_regions_are_checked(rt: HostRuntime) -> Result<(), Fail> 
         &reading(CHECK_LARGE, stream),
         sound(100_000),
         done(checked),
-    )?;
+    );
     let shown = done(b"picture 90000 clear\n");
     ends_as(
         &rt,
@@ -178,16 +180,16 @@ fn sixty_five_thousand_regions_are_checked(rt: HostRuntime) -> Result<(), Fail> 
 
 /// A set of 257 regions, of which the last has the id of the first.
 #[test]
-fn a_region_that_comes_twice(rt: HostRuntime) -> Result<(), Fail> {
+fn a_region_that_comes_twice(rt: HostRuntime) {
     let alloc = rt.alloc();
     let mut segments = Vec::new(alloc);
-    put_regions(&mut segments, 0, 257)?;
-    segments.extend_from_slice(&OPEN)?;
-    segments.extend_from_slice(&END)?;
+    put_regions(&mut segments, 0, 257).expect(&rt, "memory");
+    segments.extend_from_slice(&OPEN).expect(&rt, "memory");
+    segments.extend_from_slice(&END).expect(&rt, "memory");
     let mut unit = Vec::new(alloc);
-    put_unit(&mut unit, 90_000, segments.as_slice())?;
+    put_unit(&mut unit, 90_000, segments.as_slice()).expect(&rt, "memory");
     let mut sent = Sent::new(Vec::new(alloc));
-    sent.push(unit.as_slice())?;
+    sent.push(unit.as_slice()).expect(&rt, "memory");
     // 4,143 bytes in 23 packets, of which the last is in slot 22.
     let checked = b"set 90000 broken 4143 6123\npeak 4143\nbreach none\n";
     let asked = reading(CHECK_LARGE, sent.stream.as_slice());
@@ -196,7 +198,7 @@ fn a_region_that_comes_twice(rt: HostRuntime) -> Result<(), Fail> {
 
 /// A set in a unit of 65,541 bytes, the greatest length of a PES packet: a page, 65,504 bytes of
 /// stuffing in a segment, and the end.
-fn greatest_unit(alloc: Global) -> Result<Vec<u8>, Fail> {
+fn greatest_unit(alloc: Global) -> Result<Vec<u8>, NoMemory> {
     let mut segments = Vec::from_slice(alloc, &OPEN)?;
     segments.extend_from_slice(&[0x0F, 0xFF, 0x00, 0x01, 0xFF, 0xE0])?;
     segments.resize(65_518, 0xAA)?;
@@ -211,9 +213,9 @@ fn greatest_unit(alloc: Global) -> Result<Vec<u8>, Fail> {
 /// It is 357 packets long. The largest receivers take it; for `sd` it is too long, of which its
 /// first packet tells.
 #[test]
-fn a_unit_of_the_greatest_length(rt: HostRuntime) -> Result<(), Fail> {
+fn a_unit_of_the_greatest_length(rt: HostRuntime) {
     let alloc = rt.alloc();
-    let stream = greatest_unit(alloc)?;
+    let stream = greatest_unit(alloc).expect(&rt, "memory");
     let stream = stream.as_slice();
     let rows: [(&str, &str); 3] = [
         (
@@ -236,14 +238,13 @@ fn a_unit_of_the_greatest_length(rt: HostRuntime) -> Result<(), Fail> {
             &reading(line, stream),
             sound(100_000),
             done(text.as_bytes()),
-        )?;
+        );
     }
-    Ok(())
 }
 
 /// The encoder's unit with a PES header that would pass its end.
 #[test]
-fn a_header_that_passes_the_end(rt: HostRuntime) -> Result<(), Fail> {
+fn a_header_that_passes_the_end(rt: HostRuntime) {
     let mut unit = ENCODER_UNIT;
     unit[8] = 0xFF;
     let packet = packet_of(&[0x47, 0x41, 0x00, 0x30, 0x63, 0x00], &unit);
@@ -254,22 +255,22 @@ fn a_header_that_passes_the_end(rt: HostRuntime) -> Result<(), Fail> {
     ];
     for (line, text) in rows {
         let asked = reading(line, &packet);
-        ends_as(&rt, rt.alloc(), &asked, sound(1_000), done(text.as_bytes()))?;
+        ends_as(&rt, rt.alloc(), &asked, sound(1_000), done(text.as_bytes()));
     }
-    Ok(())
 }
 
 /// A page whose length fits no entries, and a packet whose adaptation field passes its end.
 #[test]
-fn a_fault_in_a_segment_and_in_a_packet(rt: HostRuntime) -> Result<(), Fail> {
+fn a_fault_in_a_segment_and_in_a_packet(rt: HostRuntime) {
     let alloc = rt.alloc();
     let mut unit = Vec::new(alloc);
     let page = [0x0F, 0x10, 0x00, 0x01, 0x00, 0x03, 0x05, 0x00, 0x00];
-    put_unit(&mut unit, 90_000, &page)?;
+    put_unit(&mut unit, 90_000, &page).expect(&rt, "memory");
     let mut sent = Sent::new(Vec::new(alloc));
-    sent.push(unit.as_slice())?;
+    sent.push(unit.as_slice()).expect(&rt, "memory");
     sent.stream
-        .extend_from_slice(&packet_of(&[0x47, 0x01, 0x00, 0x31, 0xB8], &[]))?;
+        .extend_from_slice(&packet_of(&[0x47, 0x01, 0x00, 0x31, 0xB8], &[]))
+        .expect(&rt, "memory");
     let wanted = Wanted {
         code: 4,
         note: "stream 1 BadAdaptation\n",

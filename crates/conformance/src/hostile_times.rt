@@ -3,10 +3,11 @@ use crate::same::same;
 use samples::first_run::{CHECK, COMPILE};
 use samples::streams::{ENCODER_UNIT, Sent, encoder_segments, put_unit};
 use std::alloc::Global;
-use std::test::Fail;
+use std::panic::Expect;
+use sub_base::NoMemory;
 
 /// The encoder's unit so many times, with following counters.
-fn one_unit_often(alloc: Global, count: u32) -> Result<Vec<u8>, Fail> {
+fn one_unit_often(alloc: Global, count: u32) -> Result<Vec<u8>, NoMemory> {
     let mut sent = Sent::new(Vec::new(alloc));
     for _ in 0..count {
         sent.push(&ENCODER_UNIT)?;
@@ -17,9 +18,9 @@ fn one_unit_often(alloc: Global, count: u32) -> Result<Vec<u8>, Fail> {
 /// One set comes of a thousand units of one time: the others are behind its end, and their bytes
 /// leave as they have come.
 #[test]
-fn one_time_a_thousand_times(rt: HostRuntime) -> Result<(), Fail> {
+fn one_time_a_thousand_times(rt: HostRuntime) {
     let alloc = rt.alloc();
-    let stream = one_unit_often(alloc, 1_000)?;
+    let stream = one_unit_often(alloc, 1_000).expect(&rt, "memory");
     let checked = done(b"set 90000 shown 84 85\npeak 84\nbreach none\n");
     ends_as(
         &rt,
@@ -31,7 +32,7 @@ fn one_time_a_thousand_times(rt: HostRuntime) -> Result<(), Fail> {
 }
 
 /// The encoder's set so many times, each a tick before the one before it.
-fn times_back(alloc: Global, count: u32) -> Result<Vec<u8>, Fail> {
+fn times_back(alloc: Global, count: u32) -> Result<Vec<u8>, NoMemory> {
     let mut sent = Sent::new(Vec::new(alloc));
     let mut unit = Vec::new(alloc);
     for back in 0..u64::from(count) {
@@ -48,16 +49,18 @@ fn times_back(alloc: Global, count: u32) -> Result<Vec<u8>, Fail> {
 /// The first set alone is kept. Each other one is told with the tick of its packet, as it is
 /// dropped then.
 #[test]
-fn times_that_go_back(rt: HostRuntime) -> Result<(), Fail> {
+fn times_that_go_back(rt: HostRuntime) {
     let alloc = rt.alloc();
-    let stream = times_back(alloc, 1_000)?;
-    let mut text = String::from_str(alloc, "set 90000 shown 84 85\n")?;
+    let stream = times_back(alloc, 1_000).expect(&rt, "memory");
+    let mut text = String::from_str(alloc, "set 90000 shown 84 85\n").expect(&rt, "memory");
     for back in 1..1_000u64 {
         let pts = 90_000u64.saturating_sub(back);
         let tick = back.saturating_mul(705);
-        text.push_str(&format!(in alloc; "set {pts} notlater 84 {tick}\n")?)?;
+        text.push_str(&format!(in alloc; "set {pts} notlater 84 {tick}\n").expect(&rt, "memory"))
+            .expect(&rt, "memory");
     }
-    text.push_str("peak 84\nbreach none\n")?;
+    text.push_str("peak 84\nbreach none\n")
+        .expect(&rt, "memory");
     let asked = reading(CHECK, stream.as_slice());
     ends_as(&rt, alloc, &asked, sound(10_000), done(text.as_bytes()))
 }
@@ -68,7 +71,7 @@ fn start_of(number: u64) -> u64 {
 }
 
 /// So many cues, each of a second, of two pictures in turn.
-fn cues_in_turn(alloc: Global, count: u64) -> Result<String, Fail> {
+fn cues_in_turn(alloc: Global, count: u64) -> Result<String, NoMemory> {
     let mut script = String::from_str(
         alloc,
         "origin,0\n\
@@ -92,7 +95,7 @@ fn cues_in_turn(alloc: Global, count: u64) -> Result<String, Fail> {
 }
 
 /// A `dump` at the start of each cue.
-fn dump_of(alloc: Global, count: u64) -> Result<String, Fail> {
+fn dump_of(alloc: Global, count: u64) -> Result<String, NoMemory> {
     let mut line = String::from_str(alloc, "dump sd 256 1 2 in.ts out.txt")?;
     for number in 0..count {
         line.push_str(&format!(in alloc; " {}", start_of(number))?)?;
@@ -101,7 +104,7 @@ fn dump_of(alloc: Global, count: u64) -> Result<String, Fail> {
 }
 
 /// The two pictures in turn.
-fn pictures_in_turn(alloc: Global, count: u64) -> Result<String, Fail> {
+fn pictures_in_turn(alloc: Global, count: u64) -> Result<String, NoMemory> {
     let mut text = String::new(alloc);
     for number in 0..count {
         let row = if number % 2 == 0 {
@@ -116,14 +119,14 @@ fn pictures_in_turn(alloc: Global, count: u64) -> Result<String, Fail> {
 
 /// Forty sets of one epoch: the region's version passes 15 twice, and each is taken.
 #[test]
-fn versions_go_round(rt: HostRuntime) -> Result<(), Fail> {
+fn versions_go_round(rt: HostRuntime) {
     let alloc = rt.alloc();
-    let script = cues_in_turn(alloc, 40)?;
+    let script = cues_in_turn(alloc, 40).expect(&rt, "memory");
     let asked_of = reading(COMPILE, script.as_bytes());
-    let sent = run(&rt, alloc, &asked_of, sound(100_000))?;
+    let sent = run(&rt, alloc, &asked_of, sound(100_000));
     same(&rt, sent.code, 0);
-    let line = dump_of(alloc, 40)?;
-    let text = pictures_in_turn(alloc, 40)?;
+    let line = dump_of(alloc, 40).expect(&rt, "memory");
+    let text = pictures_in_turn(alloc, 40).expect(&rt, "memory");
     let shown = reading(line.as_str(), sent.out.written());
     ends_as(&rt, alloc, &shown, sound(100_000), done(text.as_bytes()))
 }

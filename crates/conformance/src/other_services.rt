@@ -4,9 +4,10 @@ use crate::same::same;
 use samples::first_run::{FIRST_UNIT, FONT, PICTURES, SCRIPT, SECOND_UNIT};
 use samples::streams::packet_of;
 use std::alloc::Global;
+use std::panic::Expect;
 use std::process::Abort;
-use std::test::Fail;
 use std::thread::Threads;
+use sub_base::NoMemory;
 
 // What the first run has for PID 256 and page 1, for services at the edges of what words may say.
 
@@ -40,7 +41,7 @@ fn with_page<const N: usize>(mut unit: [u8; N], places: &[usize], page: u16) -> 
 }
 
 /// The two packets of the first run, as that service has them.
-fn stream_of(alloc: Global, service: Service) -> Result<Vec<u8>, Fail> {
+fn stream_of(alloc: Global, service: Service) -> Result<Vec<u8>, NoMemory> {
     let [high, low] = service.pid.to_be_bytes();
     let first = with_page(FIRST_UNIT, &[16, 27, 41, 63, 91], service.page);
     let second = with_page(SECOND_UNIT, &[16, 24], service.page);
@@ -52,27 +53,27 @@ fn stream_of(alloc: Global, service: Service) -> Result<Vec<u8>, Fail> {
 }
 
 #[test]
-fn a_script_is_compiled_for_any_service(rt: HostRuntime) -> Result<(), Fail> {
+fn a_script_is_compiled_for_any_service(rt: HostRuntime) {
     let alloc = rt.alloc();
     for service in SERVICES {
         let line = format!(in alloc;
             "compile sd {} {} script.csv none out.ts",
             service.pid, service.page
-        )?;
+        )
+        .expect(&rt, "memory");
         let asked = reading(line.as_str(), SCRIPT.as_bytes());
-        let stream = stream_of(alloc, service)?;
-        ends_as(&rt, alloc, &asked, sound(1_000), done(stream.as_slice()))?;
+        let stream = stream_of(alloc, service).expect(&rt, "memory");
+        ends_as(&rt, alloc, &asked, sound(1_000), done(stream.as_slice()));
     }
-    Ok(())
 }
 
 #[test]
-fn a_stream_is_told_for_any_service(rt: HostRuntime) -> Result<(), Fail> {
+fn a_stream_is_told_for_any_service(rt: HostRuntime) {
     let alloc = rt.alloc();
     for service in SERVICES {
         let Service { pid, page } = service;
-        let stream = stream_of(alloc, service)?;
-        let list = format!(in alloc; "list {pid} in.ts out.txt")?;
+        let stream = stream_of(alloc, service).expect(&rt, "memory");
+        let list = format!(in alloc; "list {pid} in.ts out.txt").expect(&rt, "memory");
         let lines = format!(in alloc;
             "unit 0 pts 90000 length 98\n\
              segment 2 14 {page} 5\n\
@@ -83,9 +84,14 @@ fn a_stream_is_told_for_any_service(rt: HostRuntime) -> Result<(), Fail> {
              unit 1 pts 180000 length 31\n\
              segment 2 10 {page} 2\n\
              segment 10 80 {page} 0\n"
-        )?;
-        let dump = format!(in alloc; "dump sd {pid} {page} 2 in.ts out.txt 90000 180000")?;
-        let check = format!(in alloc; "check sd 0 {pid} {page} in.ts out.txt")?;
+        )
+        .expect(&rt, "memory");
+        let dump = format!(in alloc; "dump sd {pid} {page} 2 in.ts out.txt 90000 180000").expect(
+            &rt, "memory",
+        );
+        let check = format!(in alloc; "check sd 0 {pid} {page} in.ts out.txt").expect(
+            &rt, "memory",
+        );
         let checked = "set 90000 shown 98 99\nset 180000 shown 31 90031\npeak 98\nbreach none\n";
         for (line, text) in [
             (list.as_str(), lines.as_str()),
@@ -93,10 +99,9 @@ fn a_stream_is_told_for_any_service(rt: HostRuntime) -> Result<(), Fail> {
             (check.as_str(), checked),
         ] {
             let asked = reading(line, stream.as_slice());
-            ends_as(&rt, alloc, &asked, sound(1_000), done(text.as_bytes()))?;
+            ends_as(&rt, alloc, &asked, sound(1_000), done(text.as_bytes()));
         }
     }
-    Ok(())
 }
 
 /// A cue of two lines of text.
@@ -118,15 +123,15 @@ fn is_sent_live<R: Threads + Sync + Abort>(
     words: &str,
     script: &str,
     font: &str,
-) -> Result<(), Fail> {
-    let compile = format!(in alloc; "compile {words} out.ts")?;
-    let live = format!(in alloc; "live {words} out.ts")?;
+) {
+    let compile = format!(in alloc; "compile {words} out.ts").expect(rt, "memory");
+    let live = format!(in alloc; "live {words} out.ts").expect(rt, "memory");
     let asked = Asked {
         line: compile.as_str(),
         first: script.as_bytes(),
         second: font.as_bytes(),
     };
-    let compiled = run(rt, alloc, &asked, sound(100_000))?;
+    let compiled = run(rt, alloc, &asked, sound(100_000));
     same(rt, compiled.code, 0);
     let asked = Asked {
         line: live.as_str(),
@@ -142,12 +147,14 @@ fn is_sent_live<R: Threads + Sync + Abort>(
 }
 
 #[test]
-fn a_script_is_sent_live_for_any_service(rt: HostRuntime) -> Result<(), Fail> {
+fn a_script_is_sent_live_for_any_service(rt: HostRuntime) {
     let alloc = rt.alloc();
     for profile in ["sd", "hd", "large"] {
         for Service { pid, page } in SERVICES {
-            let words = format!(in alloc; "{profile} {pid} {page} script.csv none")?;
-            is_sent_live(&rt, alloc, words.as_str(), SCRIPT, "")?;
+            let words = format!(in alloc; "{profile} {pid} {page} script.csv none").expect(
+                &rt, "memory",
+            );
+            is_sent_live(&rt, alloc, words.as_str(), SCRIPT, "");
         }
     }
     is_sent_live(
@@ -161,40 +168,41 @@ fn a_script_is_sent_live_for_any_service(rt: HostRuntime) -> Result<(), Fail> {
 
 /// A stream joined with itself has its packets twice.
 #[test]
-fn streams_are_joined_for_any_service(rt: HostRuntime) -> Result<(), Fail> {
+fn streams_are_joined_for_any_service(rt: HostRuntime) {
     let alloc = rt.alloc();
     for (profile, service) in ["sd", "hd", "large"].into_iter().zip(SERVICES) {
         let Service { pid, page } = service;
-        let line = format!(in alloc; "splice {profile} {pid} {page} 0 270000 a.ts a.ts out.ts")?;
-        let stream = stream_of(alloc, service)?;
+        let line = format!(in alloc;
+            "splice {profile} {pid} {page} 0 270000 a.ts a.ts out.ts"
+        ).expect(&rt, "memory");
+        let stream = stream_of(alloc, service).expect(&rt, "memory");
         let asked = Asked {
             line: line.as_str(),
             first: stream.as_slice(),
             second: stream.as_slice(),
         };
-        let _ = whole_of(&rt, alloc, &asked, 752)?;
+        let _ = whole_of(&rt, alloc, &asked, 752);
     }
-    Ok(())
 }
 
 /// Both scripts' sets are in the same two packets, whatever the service.
 #[test]
-fn scripts_are_paired_for_any_service(rt: HostRuntime) -> Result<(), Fail> {
+fn scripts_are_paired_for_any_service(rt: HostRuntime) {
     let alloc = rt.alloc();
     for (profile, service) in ["sd", "hd", "large"].into_iter().zip(SERVICES) {
         let Service { pid, page } = service;
         let line = format!(in alloc;
             "pair {profile} {pid} {page} {} {SHARED_PAGE} a.csv b.csv out.ts",
             page.wrapping_add(2)
-        )?;
+        )
+        .expect(&rt, "memory");
         let asked = Asked {
             line: line.as_str(),
             first: SCRIPT.as_bytes(),
             second: SCRIPT.as_bytes(),
         };
-        let _ = whole_of(&rt, alloc, &asked, 376)?;
+        let _ = whole_of(&rt, alloc, &asked, 376);
     }
-    Ok(())
 }
 
 // Many sets, each with a picture of its own.
@@ -215,7 +223,7 @@ fn codes_of(number: u64) -> [u64; 4] {
 }
 
 /// Puts out a run of so many pixels of a code, as a picture's text has it.
-fn put_run(alloc: Global, text: &mut String, count: u64, code: u64) -> Result<(), Fail> {
+fn put_run(alloc: Global, text: &mut String, count: u64, code: u64) -> Result<(), NoMemory> {
     let colour = COLOURS
         .get(code.saturating_sub(1) as usize)
         .copied()
@@ -225,7 +233,7 @@ fn put_run(alloc: Global, text: &mut String, count: u64, code: u64) -> Result<()
 }
 
 /// Puts out the row of these codes: runs of one colour, with a space between two of them.
-fn put_row(alloc: Global, text: &mut String, codes: [u64; 4]) -> Result<(), Fail> {
+fn put_row(alloc: Global, text: &mut String, codes: [u64; 4]) -> Result<(), NoMemory> {
     let mut last = 0;
     let mut count = 0u64;
     for code in &codes {
@@ -243,36 +251,64 @@ fn put_row(alloc: Global, text: &mut String, codes: [u64; 4]) -> Result<(), Fail
 }
 
 #[test]
-fn many_pictures_are_sent_and_shown(rt: HostRuntime) -> Result<(), Fail> {
+fn many_pictures_are_sent_and_shown(rt: HostRuntime) {
     let alloc = rt.alloc();
     let mut script = String::new(alloc);
     let mut places = String::new(alloc);
     let mut dump = String::new(alloc);
     let mut shown = String::new(alloc);
-    script.push_str("origin,0\ndisplay,4,2\nrefresh,60\nepoch,90000\nregion,0,0,0,4,2,8,0\n")?;
-    dump.push_str("dump large 256 1 2 in.ts out.txt")?;
+    script
+        .push_str("origin,0\ndisplay,4,2\nrefresh,60\nepoch,90000\nregion,0,0,0,4,2,8,0\n")
+        .expect(&rt, "memory");
+    dump.push_str("dump large 256 1 2 in.ts out.txt")
+        .expect(&rt, "memory");
     for number in 0..MANY {
         let codes = codes_of(number);
         let [a, b, c, d] = codes;
         let start = 90_000 + 270_000 * number;
         let end = start + 180_000;
-        script.push_str(format!(in alloc;
-            "picture,p{number},8,4,2,0{a}0{b}0{c}0{d}03030303\n"
-        )?.as_str())?;
-        places.push_str(format!(in alloc;
-            "place,{start},{end},0,0,0,solid,p{number}\n"
-        )?.as_str())?;
-        dump.push_str(format!(in alloc; " {start} {end}")?.as_str())?;
-        shown.push_str(format!(in alloc; "picture {start} 4 2\n")?.as_str())?;
-        put_row(alloc, &mut shown, codes)?;
-        shown.push_str(format!(in alloc; "4*D29210C0\npicture {end} clear\n")?.as_str())?;
+        script
+            .push_str(
+                format!(in alloc; "picture,p{number},8,4,2,0{a}0{b}0{c}0{d}03030303\n")
+                    .expect(&rt, "memory")
+                    .as_str(),
+            )
+            .expect(&rt, "memory");
+        places
+            .push_str(
+                format!(in alloc; "place,{start},{end},0,0,0,solid,p{number}\n")
+                    .expect(&rt, "memory")
+                    .as_str(),
+            )
+            .expect(&rt, "memory");
+        dump.push_str(
+            format!(in alloc; " {start} {end}")
+                .expect(&rt, "memory")
+                .as_str(),
+        )
+        .expect(&rt, "memory");
+        shown
+            .push_str(
+                format!(in alloc; "picture {start} 4 2\n")
+                    .expect(&rt, "memory")
+                    .as_str(),
+            )
+            .expect(&rt, "memory");
+        put_row(alloc, &mut shown, codes).expect(&rt, "memory");
+        shown
+            .push_str(
+                format!(in alloc; "4*D29210C0\npicture {end} clear\n")
+                    .expect(&rt, "memory")
+                    .as_str(),
+            )
+            .expect(&rt, "memory");
     }
-    script.push_str(places.as_str())?;
+    script.push_str(places.as_str()).expect(&rt, "memory");
     let compile = reading(
         "compile large 256 1 script.csv none out.ts",
         script.as_bytes(),
     );
-    let sent = run(&rt, alloc, &compile, sound(100_000))?;
+    let sent = run(&rt, alloc, &compile, sound(100_000));
     same(&rt, sent.notes.written(), b"done\n".as_slice());
     let asked = Asked {
         line: dump.as_str(),
@@ -285,7 +321,7 @@ fn many_pictures_are_sent_and_shown(rt: HostRuntime) -> Result<(), Fail> {
 // Numbers that another program, without any code of this one, reckoned of generated scripts.
 
 #[test]
-fn scripts_of_other_lengths_are_generated(rt: HostRuntime) -> Result<(), Fail> {
+fn scripts_of_other_lengths_are_generated(rt: HostRuntime) {
     for (line, text) in [
         (
             "gen 17 hd entries.txt",
@@ -304,7 +340,6 @@ fn scripts_of_other_lengths_are_generated(rt: HostRuntime) -> Result<(), Fail> {
             &reading(line, &[]),
             sound(100_000),
             done(text.as_bytes()),
-        )?;
+        );
     }
-    Ok(())
 }

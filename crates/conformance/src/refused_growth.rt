@@ -1,8 +1,8 @@
 use crate::running::{Asked, reading, run, sound};
 use samples::first_run::*;
 use std::alloc::Global;
+use std::panic::Expect;
 use std::process::Abort;
-use std::test::Fail;
 use std::thread::Threads;
 
 /// Whether the output is a prefix of that one. Where there was no memory, nothing was put out.
@@ -22,15 +22,14 @@ pub(crate) fn ends_with_or_without_memory<R: Threads + Sync + Abort>(
     alloc: Global,
     asked: &Asked<'_>,
     whole: &[u8],
-) -> Result<(), Fail> {
-    let ended = run(rt, alloc, asked, sound(100))?;
+) {
+    let ended = run(rt, alloc, asked, sound(100));
     assert!(rt; is_cut_off(ended.code, ended.out.written(), whole));
-    Ok(())
 }
 
 #[test]
-fn memory_of_compile(rt: HostRuntime) -> Result<(), Fail> {
-    let stream = stream(rt.alloc())?;
+fn memory_of_compile(rt: HostRuntime) {
+    let stream = stream(rt.alloc()).expect(&rt, "memory");
     let asked = Asked {
         line: COMPILE_WITH_FONT,
         first: SCRIPT.as_bytes(),
@@ -40,7 +39,7 @@ fn memory_of_compile(rt: HostRuntime) -> Result<(), Fail> {
 }
 
 #[test]
-fn memory_of_expect(rt: HostRuntime) -> Result<(), Fail> {
+fn memory_of_expect(rt: HostRuntime) {
     let asked = Asked {
         line: EXPECT_WITH_FONT,
         first: SCRIPT.as_bytes(),
@@ -49,28 +48,23 @@ fn memory_of_expect(rt: HostRuntime) -> Result<(), Fail> {
     ends_with_or_without_memory(&rt, rt.alloc(), &asked, PICTURES.as_bytes())
 }
 
-fn over_the_stream<R: Threads + Sync + Abort>(
-    rt: &R,
-    alloc: Global,
-    line: &str,
-    whole: &str,
-) -> Result<(), Fail> {
-    let stream = stream(alloc)?;
+fn over_the_stream<R: Threads + Sync + Abort>(rt: &R, alloc: Global, line: &str, whole: &str) {
+    let stream = stream(alloc).expect(rt, "memory");
     let asked = reading(line, stream.as_slice());
     ends_with_or_without_memory(rt, alloc, &asked, whole.as_bytes())
 }
 
 #[test]
-fn memory_of_list(rt: HostRuntime) -> Result<(), Fail> {
+fn memory_of_list(rt: HostRuntime) {
     over_the_stream(&rt, rt.alloc(), LIST, BOTH_LINES)
 }
 
 #[test]
-fn memory_of_dump(rt: HostRuntime) -> Result<(), Fail> {
+fn memory_of_dump(rt: HostRuntime) {
     over_the_stream(&rt, rt.alloc(), DUMP, PICTURES)
 }
 
 #[test]
-fn memory_of_check(rt: HostRuntime) -> Result<(), Fail> {
+fn memory_of_check(rt: HostRuntime) {
     over_the_stream(&rt, rt.alloc(), CHECK, BOTH_CHECKED)
 }

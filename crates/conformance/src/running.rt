@@ -8,10 +8,10 @@ use samples::words_of;
 use service_mux::{mux_top, take_top};
 use splice::splice_top;
 use std::alloc::Global;
+use std::panic::Expect;
 use std::process::Abort;
-use std::test::Fail;
 use std::thread::Threads;
-use sub_base::{MemSink, MemSource, NoGate, Sink, Source};
+use sub_base::{MemSink, MemSource, NoGate, NoMemory, Sink, Source};
 
 /// A command, and what its first and its second source hold.
 #[derive(Clone, Copy)]
@@ -63,40 +63,49 @@ pub(crate) struct Ended {
 }
 
 /// Carries out a command.
-pub(crate) fn run<R: Threads + Sync>(
+pub(crate) fn run<R: Threads + Sync + Abort>(
     rt: &R,
     alloc: Global,
     asked: &Asked<'_>,
     edges: Edges,
-) -> Result<Ended, Fail> {
-    let mut first = source_of(alloc, asked.first, edges.most_read, edges.bad_read)?;
-    let mut second = source_of(alloc, asked.second, edges.most_read, edges.bad_font_read)?;
+) -> Ended {
+    let mut first = source_of(alloc, asked.first, edges.most_read, edges.bad_read).expect(
+        rt, "memory",
+    );
+    let mut second = source_of(alloc, asked.second, edges.most_read, edges.bad_font_read).expect(
+        rt, "memory",
+    );
     run_over(rt, alloc, asked.line, &mut first, &mut second, edges)
 }
 
-fn source_of(alloc: Global, bytes: &[u8], most: usize, bad_read: u64) -> Result<MemSource, Fail> {
+fn source_of(
+    alloc: Global,
+    bytes: &[u8],
+    most: usize,
+    bad_read: u64,
+) -> Result<MemSource, NoMemory> {
     let bytes = Vec::from_slice(alloc, bytes)?;
     let fails = vec![in alloc; bad_read]?;
     Ok(MemSource::make(alloc, bytes, most.max(1), fails))
 }
 
-fn sink_of(alloc: Global, most: usize, bad_write: u64) -> Result<MemSink, Fail> {
+fn sink_of(alloc: Global, most: usize, bad_write: u64) -> Result<MemSink, NoMemory> {
     let fails = vec![in alloc; bad_write]?;
     Ok(MemSink::make(alloc, most.max(1), fails))
 }
 
 /// Carries out a command, or a tool of the second program, over any sources.
-pub(crate) fn run_over<R: Threads + Sync, A: Source, B: Source>(
+pub(crate) fn run_over<R: Threads + Sync + Abort, A: Source, B: Source>(
     rt: &R,
     alloc: Global,
     line: &str,
     first: &mut A,
     second: &mut B,
     edges: Edges,
-) -> Result<Ended, Fail> {
-    let words = words_of(alloc, line)?;
-    let mut out = sink_of(alloc, edges.most_written, edges.bad_write)?;
-    let mut notes = sink_of(alloc, edges.most_written, edges.bad_note)?;
+) -> Ended {
+    let words = words_of(alloc, line).expect(rt, "memory");
+    let mut out = sink_of(alloc, edges.most_written, edges.bad_write).expect(rt, "memory");
+    let mut notes = sink_of(alloc, edges.most_written, edges.bad_note).expect(rt, "memory");
     let code = if line.starts_with("mux ") {
         mux_top(alloc, &words, first, second, &mut out, &mut notes).code()
     } else if line.starts_with("take ") {
@@ -116,7 +125,7 @@ pub(crate) fn run_over<R: Threads + Sync, A: Source, B: Source>(
         );
         status.code()
     };
-    Ok(Ended { code, out, notes })
+    Ended { code, out, notes }
 }
 
 /// How a command has to end.
@@ -143,15 +152,14 @@ pub(crate) fn ends_as<R: Threads + Sync + Abort>(
     asked: &Asked<'_>,
     edges: Edges,
     wanted: Wanted<'_>,
-) -> Result<(), Fail> {
-    let ended = run(rt, alloc, asked, edges)?;
+) {
+    let ended = run(rt, alloc, asked, edges);
     is_as(rt, &ended, wanted)
 }
 
 /// A command ended as is wanted.
-pub(crate) fn is_as<R: Abort>(rt: &R, ended: &Ended, wanted: Wanted<'_>) -> Result<(), Fail> {
+pub(crate) fn is_as<R: Abort>(rt: &R, ended: &Ended, wanted: Wanted<'_>) {
     same(rt, ended.notes.written(), wanted.note.as_bytes());
     same(rt, ended.code, wanted.code);
     same(rt, ended.out.written(), wanted.out);
-    Ok(())
 }

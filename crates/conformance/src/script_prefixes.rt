@@ -2,8 +2,8 @@ use crate::running::{Wanted, done, ends_as, reading, run, sound};
 use crate::same::same;
 use samples::first_run::{CLEAR_PICTURES, COMPILE, EXPECT, SCRIPT};
 use std::alloc::Global;
+use std::panic::Expect;
 use std::process::Abort;
-use std::test::Fail;
 use std::thread::Threads;
 
 /// The first run's script in pieces. Where it ends with any character of a piece it is answered
@@ -49,13 +49,13 @@ fn is_compiled<R: Threads + Sync + Abort>(
     script: &str,
     line: &str,
     size: usize,
-) -> Result<(), Fail> {
+) {
     let ended = run(
         rt,
         alloc,
         &reading(COMPILE, script.as_bytes()),
         sound(1_000),
-    )?;
+    );
     let (code, note) = if line.is_empty() {
         (0, "done\n")
     } else {
@@ -64,16 +64,10 @@ fn is_compiled<R: Threads + Sync + Abort>(
     same(rt, ended.notes.written(), note.as_bytes());
     same(rt, ended.code, code);
     same(rt, ended.out.written().len(), size);
-    Ok(())
 }
 
 /// The same script, shown: without its last record there are no cues.
-fn is_shown<R: Threads + Sync + Abort>(
-    rt: &R,
-    alloc: Global,
-    script: &str,
-    line: &str,
-) -> Result<(), Fail> {
+fn is_shown<R: Threads + Sync + Abort>(rt: &R, alloc: Global, script: &str, line: &str) {
     let asked = reading(EXPECT, script.as_bytes());
     let wanted = if line.starts_with("script") {
         Wanted {
@@ -88,35 +82,33 @@ fn is_shown<R: Threads + Sync + Abort>(
 }
 
 #[test]
-fn prefixes_of_a_script_are_compiled(rt: HostRuntime) -> Result<(), Fail> {
+fn prefixes_of_a_script_are_compiled(rt: HostRuntime) {
     let alloc = rt.alloc();
     let mut script = String::new(alloc);
-    is_compiled(&rt, alloc, "", "script 1 Order\n", 0)?;
+    is_compiled(&rt, alloc, "", "script 1 Order\n", 0);
     for (piece, line, size) in PIECES {
         for character in piece.chars() {
-            script.push(character)?;
-            is_compiled(&rt, alloc, script.as_str(), line, size)?;
+            script.push(character).expect(&rt, "memory");
+            is_compiled(&rt, alloc, script.as_str(), line, size);
         }
     }
-    script.push_str("\n")?;
+    script.push_str("\n").expect(&rt, "memory");
     same(&rt, script.as_str(), SCRIPT);
-    Ok(())
 }
 
 #[test]
-fn prefixes_of_a_script_are_shown(rt: HostRuntime) -> Result<(), Fail> {
+fn prefixes_of_a_script_are_shown(rt: HostRuntime) {
     let alloc = rt.alloc();
     let mut script = String::new(alloc);
-    is_shown(&rt, alloc, "", "script 1 Order\n")?;
+    is_shown(&rt, alloc, "", "script 1 Order\n");
     for (piece, line, size) in PIECES {
         if size < 376 {
             for character in piece.chars() {
-                script.push(character)?;
-                is_shown(&rt, alloc, script.as_str(), line)?;
+                script.push(character).expect(&rt, "memory");
+                is_shown(&rt, alloc, script.as_str(), line);
             }
         }
     }
-    script.push_str("a\n")?;
+    script.push_str("a\n").expect(&rt, "memory");
     same(&rt, script.as_str(), SCRIPT);
-    Ok(())
 }

@@ -1,12 +1,13 @@
 use crate::running::{Wanted, ends_as, reading, sound};
 use samples::first_run::*;
 use std::alloc::Global;
+use std::panic::Expect;
 use std::process::Abort;
-use std::test::Fail;
 use std::thread::Threads;
+use sub_base::NoMemory;
 
 /// The line of a command that is done with so many bytes behind the last packet.
-fn done_line(alloc: Global, cut: usize) -> Result<String, Fail> {
+fn done_line(alloc: Global, cut: usize) -> Result<String, NoMemory> {
     if cut == 0 {
         return Ok(String::from_str(alloc, "done\n")?);
     }
@@ -21,9 +22,9 @@ fn prefix_is_told<R: Threads + Sync + Abort>(
     line: &str,
     prefix: &[u8],
     texts: [&str; 2],
-) -> Result<(), Fail> {
+) {
     let [none, first] = texts;
-    let note = done_line(alloc, prefix.len() % 188)?;
+    let note = done_line(alloc, prefix.len() % 188).expect(rt, "memory");
     let text = if prefix.len() < 188 { none } else { first };
     let wanted = Wanted {
         code: 0,
@@ -38,29 +39,28 @@ fn prefixes_are_told<R: Threads + Sync + Abort>(
     alloc: Global,
     line: &str,
     texts: [&str; 2],
-) -> Result<(), Fail> {
-    let stream = stream(alloc)?;
+) {
+    let stream = stream(alloc).expect(rt, "memory");
     for size in 0..stream.len() {
         let prefix = stream.as_slice().get(..size).unwrap_or(&[]);
-        prefix_is_told(rt, alloc, line, prefix, texts)?;
+        prefix_is_told(rt, alloc, line, prefix, texts);
     }
-    Ok(())
 }
 
 #[test]
-fn prefixes_of_a_stream_are_listed(rt: HostRuntime) -> Result<(), Fail> {
+fn prefixes_of_a_stream_are_listed(rt: HostRuntime) {
     prefixes_are_told(&rt, rt.alloc(), LIST, ["", FIRST_LINES])
 }
 
 /// From the first packet on the picture is there, and it stays: the second set is not.
 #[test]
-fn prefixes_of_a_stream_are_shown(rt: HostRuntime) -> Result<(), Fail> {
+fn prefixes_of_a_stream_are_shown(rt: HostRuntime) {
     let line = "dump sd 256 1 2 in.ts out.txt 90000";
     prefixes_are_told(&rt, rt.alloc(), line, ["picture 90000 clear\n", PICTURE])
 }
 
 #[test]
-fn prefixes_of_a_stream_are_checked(rt: HostRuntime) -> Result<(), Fail> {
+fn prefixes_of_a_stream_are_checked(rt: HostRuntime) {
     prefixes_are_told(
         &rt,
         rt.alloc(),

@@ -2,11 +2,11 @@ ghost use Rattle.std.specs.Prelude.{◌≤◌};
 
 use crate::same::same;
 use std::alloc::Global;
-use std::test::Fail;
+use std::panic::Expect;
 use sub_base::{
     BandGate, CLEAR, Colour, Depth, FileSink, FileSource, Items, MemSink, MemSource, NoGate,
-    Profile, ProfileName, ReadAllFault, ReadFailed, SetLoad, Sink, Source, Words, WriteFailed,
-    decimal_number, default_colour, number_in, read_all, write_whole, zeros,
+    NoMemory, Profile, ProfileName, ReadAllFault, ReadFailed, SetLoad, Sink, Source, Words,
+    WriteFailed, decimal_number, default_colour, number_in, read_all, write_whole, zeros,
 };
 
 fn colour(y: u8, cr: u8, cb: u8, t: u8) -> Colour {
@@ -14,7 +14,7 @@ fn colour(y: u8, cr: u8, cb: u8, t: u8) -> Colour {
 }
 
 #[test]
-fn default_colours(rt: HostRuntime) -> Result<(), Fail> {
+fn default_colours(rt: HostRuntime) {
     same(
         &rt,
         default_colour(Depth::Eight, 1),
@@ -51,7 +51,6 @@ fn default_colours(rt: HostRuntime) -> Result<(), Fail> {
         colour(0x7E, 0x80, 0x80, 0),
     );
     same(&rt, default_colour(Depth::Two, 0).shown(), CLEAR);
-    Ok(())
 }
 
 #[test]
@@ -63,13 +62,12 @@ fn profiles_differ(rt: HostRuntime) {
 }
 
 #[test]
-fn words_in_order(rt: HostRuntime) -> Result<(), Fail> {
+fn words_in_order(rt: HostRuntime) {
     let mut words = Words::make(rt.alloc());
-    words.push("list")?;
-    words.push("256")?;
+    words.push("list").expect(&rt, "memory");
+    words.push("256").expect(&rt, "memory");
     same(&rt, words.count(), 2);
     same(&rt, words.word(1), "256");
-    Ok(())
 }
 
 #[test]
@@ -89,7 +87,7 @@ fn decimal_numbers(rt: HostRuntime) {
 }
 
 /// A source of the bytes 7, 8, 9, so many a call, that fails at that call.
-fn source(alloc: Global, most: usize, fails: u64) -> Result<MemSource, Fail>
+fn source(alloc: Global, most: usize, fails: u64) -> Result<MemSource, NoMemory>
     requires { 1 ≤ most }
 {
     let bytes = vec![in alloc; 7u8, 8, 9]?;
@@ -98,45 +96,52 @@ fn source(alloc: Global, most: usize, fails: u64) -> Result<MemSource, Fail>
 }
 
 #[test]
-fn sources_are_read_whole(rt: HostRuntime) -> Result<(), Fail> {
-    let mut whole = source(rt.alloc(), 2, 9)?;
+fn sources_are_read_whole(rt: HostRuntime) {
+    let mut whole = source(rt.alloc(), 2, 9).expect(&rt, "memory");
     same(
         &rt,
-        read_all(rt.alloc(), &mut whole, 3)?.as_slice(),
+        read_all(rt.alloc(), &mut whole, 3)
+            .expect(&rt, "a source")
+            .as_slice(),
         [7, 8, 9].as_slice(),
     );
-    let mut long = source(rt.alloc(), 2, 9)?;
+    let mut long = source(rt.alloc(), 2, 9).expect(&rt, "memory");
     same(
         &rt,
         read_all(rt.alloc(), &mut long, 2).err(),
         Some(ReadAllFault::TooLong),
     );
-    let mut failing = source(rt.alloc(), 2, 2)?;
+    let mut failing = source(rt.alloc(), 2, 2).expect(&rt, "memory");
     same(
         &rt,
         read_all(rt.alloc(), &mut failing, 3).err(),
         Some(ReadAllFault::Read),
     );
-    Ok(())
 }
 
 #[test]
-fn sinks_fail_at_their_calls(rt: HostRuntime) -> Result<(), Fail> {
-    let mut sink = MemSink::make(rt.alloc(), 2, vec![in rt.alloc(); 3u64]?);
+fn sinks_fail_at_their_calls(rt: HostRuntime) {
+    let mut sink = MemSink::make(
+        rt.alloc(),
+        2,
+        vec![in rt.alloc(); 3u64].expect(&rt, "memory"),
+    );
     same(&rt, write_whole(&mut sink, b"abc"), Ok(()));
     same(&rt, write_whole(&mut sink, b"de"), Err(WriteFailed));
     same(&rt, write_whole(&mut sink, b"fg"), Ok(()));
     same(&rt, sink.written(), b"abcfg".as_slice());
-    Ok(())
 }
 
 #[test]
-fn buffers_and_lists(rt: HostRuntime) -> Result<(), Fail> {
-    same(&rt, zeros(rt.alloc(), 2)?.as_slice(), [0u8, 0].as_slice());
-    let mut items = Items::new(rt.alloc(), vec![in rt.alloc(); 7u32]?);
-    items.push(8)?;
+fn buffers_and_lists(rt: HostRuntime) {
+    same(
+        &rt,
+        zeros(rt.alloc(), 2).expect(&rt, "memory").as_slice(),
+        [0u8, 0].as_slice(),
+    );
+    let mut items = Items::new(rt.alloc(), vec![in rt.alloc(); 7u32].expect(&rt, "memory"));
+    items.push(8).expect(&rt, "memory");
     same(&rt, items.as_slice(), [7u32, 8].as_slice());
-    Ok(())
 }
 
 /// A set of 31 bytes whose last packet is there at 705, where the set before is shown at 900.
@@ -152,7 +157,7 @@ fn sets_wait_for_the_one_before(rt: HostRuntime) {
 }
 
 #[test]
-fn files_that_are_not_there(rt: HostRuntime) -> Result<(), Fail> {
+fn files_that_are_not_there(rt: HostRuntime) {
     let mut buffer = [0u8; 4];
     let mut bytes = FileSource::make(Some(b"xyz".as_slice()));
     same(&rt, bytes.read(&mut buffer), Ok(3));
@@ -163,7 +168,6 @@ fn files_that_are_not_there(rt: HostRuntime) -> Result<(), Fail> {
     same(&rt, write_whole(&mut taken, b"xyz"), Ok(()));
     let mut closed: FileSink<Vec<u8>> = FileSink::make(None);
     same(&rt, closed.write(b"xyz"), Err(WriteFailed));
-    Ok(())
 }
 
 #[test]

@@ -1,13 +1,15 @@
 use crate::same::same;
 use buffer_model::{Breach, Levels};
-use std::test::Fail;
+use std::panic::Expect;
 use sub_base::{Profile, ProfileName, SetLoad};
 
 /// A set of 20,000 bytes leaves where it is done, at the tick of slot 29; a packet that does not
 /// fit is a breach.
 #[test]
-fn set_leaves_when_done(rt: HostRuntime) -> Result<(), Fail> {
-    let mut levels = Levels::make(rt.alloc(), &Profile::of(ProfileName::Sd), 0)?;
+fn set_leaves_when_done(rt: HostRuntime) {
+    let mut levels = Levels::make(rt.alloc(), &Profile::of(ProfileName::Sd), 0).expect(
+        &rt, "memory",
+    );
     same(&rt, levels.arrive(0, 20_000), 20_000);
     let load = SetLoad {
         pts: 300_000,
@@ -32,13 +34,14 @@ fn set_leaves_when_done(rt: HostRuntime) -> Result<(), Fail> {
             level: 24_577,
         }),
     );
-    Ok(())
 }
 
 /// A packet of 184 bytes is done at 184, too late for a set that is shown at 183.
 #[test]
-fn set_done_late(rt: HostRuntime) -> Result<(), Fail> {
-    let mut levels = Levels::make(rt.alloc(), &Profile::of(ProfileName::Sd), 0)?;
+fn set_done_late(rt: HostRuntime) {
+    let mut levels = Levels::make(rt.alloc(), &Profile::of(ProfileName::Sd), 0).expect(
+        &rt, "memory",
+    );
     same(&rt, levels.arrive(0, 184), 184);
     let load = SetLoad {
         pts: 183,
@@ -54,13 +57,14 @@ fn set_done_late(rt: HostRuntime) -> Result<(), Fail> {
             pts: 183,
         }),
     );
-    Ok(())
 }
 
 /// A set in three packets in the largest buffer, which then fills up to its last byte, and past it.
 #[test]
-fn largest_buffer(rt: HostRuntime) -> Result<(), Fail> {
-    let mut levels = Levels::make(rt.alloc(), &Profile::of(ProfileName::Large), 0)?;
+fn largest_buffer(rt: HostRuntime) {
+    let mut levels = Levels::make(rt.alloc(), &Profile::of(ProfileName::Large), 0).expect(
+        &rt, "memory",
+    );
     same(&rt, levels.arrive(556, 60_090), 60_090);
     same(&rt, levels.arrive(1_000, 60_031), 120_121);
     same(&rt, levels.arrive(1_536, 60_037), 180_158);
@@ -83,13 +87,14 @@ fn largest_buffer(rt: HostRuntime) -> Result<(), Fail> {
             level: 262_145,
         }),
     );
-    Ok(())
 }
 
 /// Packets that come by the tick: two in one tick, of which the second does not fit.
 #[test]
-fn packets_by_the_tick(rt: HostRuntime) -> Result<(), Fail> {
-    let mut levels = Levels::by_ticks(rt.alloc(), &Profile::of(ProfileName::Sd))?;
+fn packets_by_the_tick(rt: HostRuntime) {
+    let mut levels = Levels::by_ticks(rt.alloc(), &Profile::of(ProfileName::Sd)).expect(
+        &rt, "memory",
+    );
     same(&rt, levels.arrive(7, 20_000), 20_000);
     same(&rt, levels.tick(), 7);
     let load = SetLoad {
@@ -109,5 +114,4 @@ fn packets_by_the_tick(rt: HostRuntime) -> Result<(), Fail> {
             level: 24_577,
         }),
     );
-    Ok(())
 }

@@ -4,7 +4,7 @@ ghost use Rattle.display_sets.specs.Gathered.{ready_sets};
 use crate::same::same;
 use display_sets::{Gathering, Pages, Ready, SetFault, UnitEnd};
 use std::alloc::Global;
-use std::test::Fail;
+use std::panic::Expect;
 use stream_syntax::{SegmentFault, SegmentKind};
 use sub_base::NoMemory;
 
@@ -147,7 +147,7 @@ fn first_wrong(gathering: &mut Gathering, rows: &[Row<'_>]) -> Option<u32>
 }
 
 #[test]
-fn units_come_to_sets(rt: HostRuntime) -> Result<(), Fail> {
+fn units_come_to_sets(rt: HostRuntime) {
     let one = [whole(90_000, 60, &SET)];
     let two = [whole(180_000, 61, &SET)];
     let parted = [whole(270_000, 28, &PAGE), whole(360_000, 62, &SET)];
@@ -169,15 +169,14 @@ fn units_come_to_sets(rt: HostRuntime) -> Result<(), Fail> {
         taken_as(630_000, 33, &UNSYNCED, UnitEnd::Taken, &unsynced),
         taken_as(720_000, 34, &CUT, UnitEnd::Taken, &cut),
     ];
-    let mut gathering = Gathering::make(rt.alloc(), Pages::only(1), 20)?;
+    let mut gathering = Gathering::make(rt.alloc(), Pages::only(1), 20).expect(&rt, "memory");
     same(&rt, first_wrong(&mut gathering, &rows), None);
-    Ok(())
 }
 
 /// A loss gives up the set in hand, and the end of the stream makes it ready.
 #[test]
-fn ends_of_open_sets(rt: HostRuntime) -> Result<(), Fail> {
-    let mut gathering = Gathering::make(rt.alloc(), Pages::only(1), 20)?;
+fn ends_of_open_sets(rt: HostRuntime) {
+    let mut gathering = Gathering::make(rt.alloc(), Pages::only(1), 20).expect(&rt, "memory");
     assert!(rt; goes(&mut gathering, &taken_as(5, 25, &PAGE, UnitEnd::Taken, &[])));
     gathering.lose();
     let end = [whole(5, 26, &END)];
@@ -185,7 +184,6 @@ fn ends_of_open_sets(rt: HostRuntime) -> Result<(), Fail> {
     assert!(rt; goes(&mut gathering, &taken_as(7, 27, &PAGE, UnitEnd::Taken, &[])));
     gathering.finish();
     assert!(rt; gives(&mut gathering, &[whole(7, 27, &PAGE)]));
-    Ok(())
 }
 
 /// Whether a segment without a body, of this type and with this page id, counts.
@@ -212,7 +210,7 @@ fn counted(alloc: Global, pages: Pages, page: u8) -> Result<[bool; 7], NoMemory>
 /// Of a composition page all types of a display set count, of an ancillary page CLUTs and objects,
 /// of other pages nothing.
 #[test]
-fn what_counts_of_which_page(rt: HostRuntime) -> Result<(), Fail> {
+fn what_counts_of_which_page(rt: HostRuntime) {
     let whole = [true, true, true, true, true, true, false];
     let shared = [false, false, true, true, false, false, false];
     let nothing = [false; 7];
@@ -220,17 +218,36 @@ fn what_counts_of_which_page(rt: HostRuntime) -> Result<(), Fail> {
         composition: 1,
         ancillary: 2,
     };
-    same(&rt, counted(rt.alloc(), two, 1)?, whole);
-    same(&rt, counted(rt.alloc(), two, 2)?, shared);
-    same(&rt, counted(rt.alloc(), two, 3)?, nothing);
-    same(&rt, counted(rt.alloc(), Pages::only(2), 2)?, whole);
-    same(&rt, counted(rt.alloc(), Pages::only(2), 1)?, nothing);
-    Ok(())
+    same(
+        &rt,
+        counted(rt.alloc(), two, 1).expect(&rt, "memory"),
+        whole,
+    );
+    same(
+        &rt,
+        counted(rt.alloc(), two, 2).expect(&rt, "memory"),
+        shared,
+    );
+    same(
+        &rt,
+        counted(rt.alloc(), two, 3).expect(&rt, "memory"),
+        nothing,
+    );
+    same(
+        &rt,
+        counted(rt.alloc(), Pages::only(2), 2).expect(&rt, "memory"),
+        whole,
+    );
+    same(
+        &rt,
+        counted(rt.alloc(), Pages::only(2), 1).expect(&rt, "memory"),
+        nothing,
+    );
 }
 
 /// The set of one unit with segments of both pages: each segment that counts stands in it once.
 #[test]
-fn segments_of_two_pages(rt: HostRuntime) -> Result<(), Fail> {
+fn segments_of_two_pages(rt: HostRuntime) {
     let two = Pages {
         composition: 1,
         ancillary: 2,
@@ -241,10 +258,9 @@ fn segments_of_two_pages(rt: HostRuntime) -> Result<(), Fail> {
         (Pages::only(2), &SECOND[..]),
     ];
     for (pages, segments) in rows {
-        let mut gathering = Gathering::make(rt.alloc(), pages, 40)?;
+        let mut gathering = Gathering::make(rt.alloc(), pages, 40).expect(&rt, "memory");
         let set = [whole(90_000, 50, segments)];
         let row = taken_as(90_000, 50, &TWO_PAGES, UnitEnd::Taken, &set);
         assert!(rt; goes(&mut gathering, &row));
     }
-    Ok(())
 }

@@ -1,6 +1,6 @@
 use crate::same::same;
 use samples::streams::packet_of;
-use std::test::Fail;
+use std::panic::Expect;
 use ts_packets::{Demux, Event, PacketFault, Packetiser, null_packet};
 
 /// The units of the first worked stream, with the times 90000 and 180000.
@@ -48,26 +48,34 @@ fn worked_packets_are_written(rt: HostRuntime) {
 }
 
 #[test]
-fn worked_stream_gives_its_two_units(rt: HostRuntime) -> Result<(), Fail> {
-    let mut demux = Demux::make(rt.alloc(), 256, 24_576)?;
-    let fed = demux.feed(&packet_of(&FIRST_HEAD, &FIRST_UNIT))?;
+fn worked_stream_gives_its_two_units(rt: HostRuntime) {
+    let mut demux = Demux::make(rt.alloc(), 256, 24_576).expect(&rt, "memory");
+    let fed = demux
+        .feed(&packet_of(&FIRST_HEAD, &FIRST_UNIT))
+        .expect(&rt, "a packet");
     same(&rt, fed.event, Event::Followed);
-    same(&rt, fed.unit.ok_or("no unit")?, FIRST_UNIT.as_slice());
-    let fed = demux.feed(&packet_of(&SECOND_HEAD, &SECOND_UNIT))?;
+    same(&rt, fed.unit.expect(&rt, "no unit"), FIRST_UNIT.as_slice());
+    let fed = demux
+        .feed(&packet_of(&SECOND_HEAD, &SECOND_UNIT))
+        .expect(&rt, "a packet");
     same(&rt, fed.event, Event::Followed);
-    same(&rt, fed.unit.ok_or("no unit")?, SECOND_UNIT.as_slice());
-    Ok(())
+    same(&rt, fed.unit.expect(&rt, "no unit"), SECOND_UNIT.as_slice());
 }
 
 #[test]
-fn unit_behind_missing_packets_comes_out(rt: HostRuntime) -> Result<(), Fail> {
-    let mut demux = Demux::make(rt.alloc(), 256, 24_576)?;
+fn unit_behind_missing_packets_comes_out(rt: HostRuntime) {
+    let mut demux = Demux::make(rt.alloc(), 256, 24_576).expect(&rt, "memory");
     same(
         &rt,
-        demux.feed(&packet_of(&FIRST_HEAD, &FIRST_UNIT))?.event,
+        demux
+            .feed(&packet_of(&FIRST_HEAD, &FIRST_UNIT))
+            .expect(&rt, "a packet")
+            .event,
         Event::Followed,
     );
-    let fed = demux.feed(&packet_of(&[0x47, 0x41, 0x00, 0x33, 0x98, 0x00], &SECOND_UNIT))?;
+    let fed = demux
+        .feed(&packet_of(&[0x47, 0x41, 0x00, 0x33, 0x98, 0x00], &SECOND_UNIT))
+        .expect(&rt, "a packet");
     same(
         &rt,
         fed.event,
@@ -76,14 +84,13 @@ fn unit_behind_missing_packets_comes_out(rt: HostRuntime) -> Result<(), Fail> {
             found: 3,
         },
     );
-    same(&rt, fed.unit.ok_or("no unit")?, SECOND_UNIT.as_slice());
-    Ok(())
+    same(&rt, fed.unit.expect(&rt, "no unit"), SECOND_UNIT.as_slice());
 }
 
 #[test]
-fn each_event_has_its_numbers(rt: HostRuntime) -> Result<(), Fail> {
+fn each_event_has_its_numbers(rt: HostRuntime) {
     let waiting = packet_of(&[], &[]);
-    let mut demux = Demux::make(rt.alloc(), 256, 24_576)?;
+    let mut demux = Demux::make(rt.alloc(), 256, 24_576).expect(&rt, "memory");
     let table = [
         // No unit is there; any first counter follows.
         ([0x47, 0x01, 0x00, 0x19, 0x00], Event::Dropped, 0),
@@ -122,20 +129,21 @@ fn each_event_has_its_numbers(rt: HostRuntime) -> Result<(), Fail> {
             *byte = *given;
         }
         same(&rt, demux.is_other(&packet), event == Event::Other);
-        let fed = demux.feed(&packet)?;
+        let fed = demux.feed(&packet).expect(&rt, "a packet");
         same(&rt, fed.event, event);
         same(&rt, fed.unit.map_or(0, |unit| unit.len()), length);
     }
-    let mut small = Demux::make(rt.alloc(), 256, 97)?;
-    let fed = small.feed(&packet_of(&FIRST_HEAD, &FIRST_UNIT))?;
+    let mut small = Demux::make(rt.alloc(), 256, 97).expect(&rt, "memory");
+    let fed = small
+        .feed(&packet_of(&FIRST_HEAD, &FIRST_UNIT))
+        .expect(&rt, "a packet");
     same(&rt, fed.event, Event::TooLong { need: 98, size: 97 });
     assert!(rt; fed.unit.is_none());
-    Ok(())
 }
 
 #[test]
-fn faults_leave_the_demultiplexer_as_it_was(rt: HostRuntime) -> Result<(), Fail> {
-    let mut demux = Demux::make(rt.alloc(), 256, u64::MAX)?;
+fn faults_leave_the_demultiplexer_as_it_was(rt: HostRuntime) {
+    let mut demux = Demux::make(rt.alloc(), 256, u64::MAX).expect(&rt, "memory");
     let table = [
         ([0x48, 0x41, 0x00, 0x31, 0x98], PacketFault::NoSync),
         ([0x48, 0x41, 0x01, 0x31, 0x98], PacketFault::NoSync),
@@ -149,7 +157,8 @@ fn faults_leave_the_demultiplexer_as_it_was(rt: HostRuntime) -> Result<(), Fail>
         assert!(rt; !demux.is_other(&packet_of(&head, &[])));
         same(&rt, demux.feed(&packet_of(&head, &[])).err(), Some(fault));
     }
-    let fed = demux.feed(&packet_of(&SECOND_HEAD, &SECOND_UNIT))?;
-    same(&rt, fed.unit.ok_or("no unit")?, SECOND_UNIT.as_slice());
-    Ok(())
+    let fed = demux
+        .feed(&packet_of(&SECOND_HEAD, &SECOND_UNIT))
+        .expect(&rt, "a packet");
+    same(&rt, fed.unit.expect(&rt, "no unit"), SECOND_UNIT.as_slice());
 }

@@ -5,6 +5,7 @@ ghost use Rattle.layout_tests.specs.Private.ManyNodes.{HasIndex};
 use crate::same::same;
 use comp_pool::{Full, NodeId, Pool};
 use std::alloc::{AllocError, Global};
+use std::panic::Expect;
 use std::process::Abort;
 use std::test::Fail;
 
@@ -26,41 +27,46 @@ fn items_of(alloc: Global, pool: &Pool<u32>, list: u32) -> Result<Vec<u32>, Allo
 /// Two nodes: with both in list 0 nothing can be pushed to list 1.
 #[test]
 #[tactic(auto, using(comp_pool::proofs::NodeLaws::in_list_pushed, comp_pool::proofs::NodeLaws::in_list_after_push))]
-fn full_pool_refuses(rt: HostRuntime) -> Result<(), Fail> {
-    let mut pool = Pool::make(rt.alloc(), 2, 2, 0u32)?;
-    let five = pool.push_back(0, 5)?;
-    pool.push_back(0, 6)?;
+fn full_pool_refuses(rt: HostRuntime) {
+    let mut pool = Pool::make(rt.alloc(), 2, 2, 0u32).expect(&rt, "memory");
+    let five = pool.push_back(0, 5).expect(&rt, "room");
+    pool.push_back(0, 6).expect(&rt, "room");
     same(&rt, pool.free_nodes(), 0);
     same(&rt, pool.push_back(1, 7), Err(Full));
     same(&rt, pool.unlink(0, five), 5);
     same(
         &rt,
-        items_of(rt.alloc(), &pool, 0)?.as_slice(),
+        items_of(rt.alloc(), &pool, 0)
+            .expect(&rt, "memory")
+            .as_slice(),
         [6].as_slice(),
     );
     same(&rt, pool.free_nodes(), 1);
-    Ok(())
 }
 
 /// Three nodes in one list: the middle one is taken out, and its node is used again at the end.
 #[test]
 #[tactic(auto, using(comp_pool::proofs::NodeLaws::in_list_pushed, comp_pool::proofs::NodeLaws::in_list_after_push, comp_pool::proofs::NodeLaws::in_some_list_pushed))]
-fn middle_node_taken_out(rt: HostRuntime) -> Result<(), Fail> {
-    let mut pool = Pool::make(rt.alloc(), 3, 1, 0u32)?;
-    pool.push_back(0, 5)?;
-    let six = pool.push_back(0, 6)?;
-    pool.push_back(0, 7)?;
+fn middle_node_taken_out(rt: HostRuntime) {
+    let mut pool = Pool::make(rt.alloc(), 3, 1, 0u32).expect(&rt, "memory");
+    pool.push_back(0, 5).expect(&rt, "room");
+    let six = pool.push_back(0, 6).expect(&rt, "room");
+    pool.push_back(0, 7).expect(&rt, "room");
     same(&rt, pool.unlink(0, six), 6);
     same(
         &rt,
-        items_of(rt.alloc(), &pool, 0)?.as_slice(),
+        items_of(rt.alloc(), &pool, 0)
+            .expect(&rt, "memory")
+            .as_slice(),
         [5, 7].as_slice(),
     );
     same(&rt, pool.free_nodes(), 1);
-    let eight = pool.push_back(0, 8)?;
+    let eight = pool.push_back(0, 8).expect(&rt, "room");
     same(
         &rt,
-        items_of(rt.alloc(), &pool, 0)?.as_slice(),
+        items_of(rt.alloc(), &pool, 0)
+            .expect(&rt, "memory")
+            .as_slice(),
         [5, 7, 8].as_slice(),
     );
     same(&rt, pool.free_nodes(), 0);
@@ -68,22 +74,23 @@ fn middle_node_taken_out(rt: HostRuntime) -> Result<(), Fail> {
     pool.set_item(eight, 9);
     same(
         &rt,
-        items_of(rt.alloc(), &pool, 0)?.as_slice(),
+        items_of(rt.alloc(), &pool, 0)
+            .expect(&rt, "memory")
+            .as_slice(),
         [5, 7, 9].as_slice(),
     );
     pool.clear(0);
     same(&rt, pool.free_nodes(), 3);
-    Ok(())
 }
 
 /// An item's first node and the ones behind it, and a pool that starts anew.
 #[test]
 #[tactic(auto, using(comp_pool::proofs::NodeLaws::in_some_list_pushed, comp_pool::proofs::NodeLaws::in_some_list_after_push))]
-fn lists_of_their_own(rt: HostRuntime) -> Result<(), Fail> {
-    let mut pool = Pool::make(rt.alloc(), 3, 2, 0u32)?;
-    let one = pool.push_back(0, 1)?;
-    let two = pool.push_back(1, 2)?;
-    let three = pool.push_back(0, 3)?;
+fn lists_of_their_own(rt: HostRuntime) {
+    let mut pool = Pool::make(rt.alloc(), 3, 2, 0u32).expect(&rt, "memory");
+    let one = pool.push_back(0, 1).expect(&rt, "room");
+    let two = pool.push_back(1, 2).expect(&rt, "room");
+    let three = pool.push_back(0, 3).expect(&rt, "room");
     same(&rt, pool.first(0), Some(one));
     same(&rt, pool.next(one), Some(three));
     same(&rt, pool.next(three), None);
@@ -93,7 +100,6 @@ fn lists_of_their_own(rt: HostRuntime) -> Result<(), Fail> {
     same(&rt, pool.first(0), None);
     same(&rt, pool.first(1), None);
     same(&rt, pool.free_nodes(), 3);
-    Ok(())
 }
 
 // Pushes the items from 0 on.

@@ -1,7 +1,8 @@
 use crate::same::same;
 use decoder_model::Pages;
 use set_reader::{Came, SetReader};
-use std::test::Fail;
+use std::panic::Expect;
+use std::process::Abort;
 use stream_syntax::{Event, PacketFault};
 
 /// A page without regions of state normal, and the end of its set.
@@ -26,8 +27,8 @@ fn packet_of(counter: u8) -> [u8; 188] {
 /// A set is ready with its segments until it is given; a packet of a scrambled unit behind a
 /// missing one means two losses; and one without a sync byte is not taken.
 #[test]
-fn what_comes_of_packets(rt: HostRuntime) -> Result<(), Fail> {
-    let mut reader = SetReader::make(rt.alloc(), 256, Pages::only(1), 24_576)?;
+fn what_comes_of_packets(rt: HostRuntime) {
+    let mut reader = SetReader::make(rt.alloc(), 256, Pages::only(1), 24_576).expect(&rt, "memory");
     same(
         &rt,
         reader.feed(&packet_of(0)),
@@ -38,7 +39,7 @@ fn what_comes_of_packets(rt: HostRuntime) -> Result<(), Fail> {
     );
     same(&rt, reader.arrival().bytes, 31);
     let Some(ready) = reader.ready() else {
-        return Err(Fail::from("no set is ready"));
+        rt.panic("no set is ready")
     };
     same(&rt, (ready.time, ready.size), (90_000, 31));
     same(&rt, ready.segments, Ok(&NORMAL[..]));
@@ -60,5 +61,4 @@ fn what_comes_of_packets(rt: HostRuntime) -> Result<(), Fail> {
     assert!(rt; reader.arrival().dropped);
     assert!(rt; reader.ready().is_none());
     same(&rt, reader.feed(&[0; 188]), Err(PacketFault::NoSync));
-    Ok(())
 }

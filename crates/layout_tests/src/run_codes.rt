@@ -4,7 +4,7 @@ use crate::same::{same, same_at};
 use pixel_codes::{
     CodeFault, CodeKind, Run, check_block, row_size, run_bits, run_length, write_row,
 };
-use std::test::Fail;
+use std::panic::Expect;
 use sub_base::Depth;
 
 #[test]
@@ -37,13 +37,14 @@ fn lengths_of_runs(rt: HostRuntime) {
 }
 
 #[test]
-fn rows_of_three_depths(rt: HostRuntime) -> Result<(), Fail> {
+fn rows_of_three_depths(rt: HostRuntime) {
     let mut two = Vec::new(rt.alloc());
     write_row(
         Depth::Two,
         &[1, 1, 0, 3, 3, 3, 3, 3, 3, 3, 3, 3, 3, 3, 3],
         &mut two,
-    )?;
+    )
+    .expect(&rt, "room");
     same(&rt, two.as_slice(), b"\x51\x08\x30\x00".as_slice());
     same(&rt, row_size(Depth::Two, &[1, 1, 0, 3, 3, 3]), 3);
     let mut four = Vec::new(rt.alloc());
@@ -53,16 +54,16 @@ fn rows_of_three_depths(rt: HostRuntime) -> Result<(), Fail> {
             0, 0, 0, 7, 9, 9, 9, 9, 9, 9, 9, 9, 9, 9, 9, 9, 9, 9, 9, 9, 9, 9, 9, 9, 9, 9, 9, 9, 9,
         ],
         &mut four,
-    )?;
+    )
+    .expect(&rt, "room");
     same(&rt, four.as_slice(), b"\x01\x70\xF0\x09\x00".as_slice());
     let mut eight = Vec::new(rt.alloc());
-    write_row(Depth::Eight, &[0, 0, 200, 200, 200, 1], &mut eight)?;
+    write_row(Depth::Eight, &[0, 0, 200, 200, 200, 1], &mut eight).expect(&rt, "room");
     same(
         &rt,
         eight.as_slice(),
         b"\x00\x02\x00\x83\xC8\x01\x00\x00".as_slice(),
     );
-    Ok(())
 }
 
 /// The first fault of a block, and none where it is one.
@@ -123,13 +124,13 @@ fn faults_and_their_places(rt: HostRuntime) {
 }
 
 #[test]
-fn runs_with_tables_and_lines(rt: HostRuntime) -> Result<(), Fail> {
+fn runs_with_tables_and_lines(rt: HostRuntime) {
     let bytes = [
         0x20, 0x01, 0x23, 0x10, 0x44, 0x00, 0xF0, 0x11, 0x70, 0x00, 0x10, 0x80,
     ];
     let block = check_block(&bytes, Depth::Four)
         .ok()
-        .ok_or("the bytes are a block")?;
+        .expect(&rt, "the bytes are a block");
     let mut runs = block.runs();
     let wanted = [
         Run {
@@ -166,14 +167,13 @@ fn runs_with_tables_and_lines(rt: HostRuntime) -> Result<(), Fail> {
     }
     same(&rt, runs.next_run(), None);
     same(&rt, runs.next_run(), None);
-    Ok(())
 }
 
 #[test]
-fn default_tables(rt: HostRuntime) -> Result<(), Fail> {
+fn default_tables(rt: HostRuntime) {
     let block = check_block(&[0x10, 0x90, 0x00, 0x11, 0x50, 0x00], Depth::Eight)
         .ok()
-        .ok_or("the bytes are a block")?;
+        .expect(&rt, "the bytes are a block");
     let mut runs = block.runs();
     let wanted = [
         Run {
@@ -202,5 +202,4 @@ fn default_tables(rt: HostRuntime) -> Result<(), Fail> {
         same(&rt, runs.next_run(), Some(run));
     }
     same(&rt, runs.next_run(), None);
-    Ok(())
 }

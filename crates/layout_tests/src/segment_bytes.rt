@@ -4,7 +4,8 @@ use segments::{
     ClutEntry, Listing, ObjectSeg, PageEntry, RegionHead, Segment, SegmentFault, SegmentKind,
     SegmentOut, State, Window, frames, read_frame, read_segment, write_segment,
 };
-use std::test::Fail;
+use std::panic::Expect;
+use std::process::Abort;
 use sub_base::{CLEAR, Colour, Depth};
 
 /// A page with one region, as a usual encoder makes it.
@@ -54,9 +55,9 @@ fn fault(place: u32, kind: SegmentKind) -> SegmentFault {
 }
 
 #[test]
-fn segments_of_a_usual_encoder(rt: HostRuntime) -> Result<(), Fail> {
-    let Segment::Page(page) = read_segment(&PAGE)?.0 else {
-        return Err(Fail::from("no page"));
+fn segments_of_a_usual_encoder(rt: HostRuntime) {
+    let Segment::Page(page) = read_segment(&PAGE).expect(&rt, "a segment").0 else {
+        rt.panic("no page")
     };
     same(
         &rt,
@@ -74,8 +75,8 @@ fn segments_of_a_usual_encoder(rt: HostRuntime) -> Result<(), Fail> {
         },
     );
 
-    let Segment::Region(region) = read_segment(&REGION)?.0 else {
-        return Err(Fail::from("no region"));
+    let Segment::Region(region) = read_segment(&REGION).expect(&rt, "a segment").0 else {
+        rt.panic("no region")
     };
     same(
         &rt,
@@ -103,8 +104,8 @@ fn segments_of_a_usual_encoder(rt: HostRuntime) -> Result<(), Fail> {
         },
     );
 
-    let Segment::Object(object) = read_segment(&OBJECT)?.0 else {
-        return Err(Fail::from("no object"));
+    let Segment::Object(object) = read_segment(&OBJECT).expect(&rt, "a segment").0 else {
+        rt.panic("no object")
     };
     same(
         &rt,
@@ -114,15 +115,22 @@ fn segments_of_a_usual_encoder(rt: HostRuntime) -> Result<(), Fail> {
     same(&rt, object.top, [0x10, 0x70, 0x00, 0xF0].as_slice());
     same(&rt, object.bottom.len(), 0);
 
-    same(&rt, read_segment(&STUFFING)?, (Segment::Passed, 8));
-    same(&rt, read_segment(&END)?, (Segment::End, 6));
-    Ok(())
+    same(
+        &rt,
+        read_segment(&STUFFING).expect(&rt, "a segment"),
+        (Segment::Passed, 8),
+    );
+    same(
+        &rt,
+        read_segment(&END).expect(&rt, "a segment"),
+        (Segment::End, 6),
+    );
 }
 
 #[test]
-fn colours_of_a_clut(rt: HostRuntime) -> Result<(), Fail> {
-    let Segment::Clut(clut) = read_segment(&CLUT)?.0 else {
-        return Err(Fail::from("no CLUT"));
+fn colours_of_a_clut(rt: HostRuntime) {
+    let Segment::Clut(clut) = read_segment(&CLUT).expect(&rt, "a segment").0 else {
+        rt.panic("no CLUT")
     };
     same(&rt, (clut.clut, clut.version), (7, 2));
     let mut items = clut.items();
@@ -149,13 +157,12 @@ fn colours_of_a_clut(rt: HostRuntime) -> Result<(), Fail> {
     same(&rt, items.next(), Some(entry(2, false, true, true, short)));
     same(&rt, items.next(), Some(entry(3, false, false, true, CLEAR)));
     same(&rt, items.next(), None);
-    Ok(())
 }
 
 #[test]
-fn a_window_inside_the_display(rt: HostRuntime) -> Result<(), Fail> {
-    let Segment::Display(display) = read_segment(&WINDOW)?.0 else {
-        return Err(Fail::from("no display"));
+fn a_window_inside_the_display(rt: HostRuntime) {
+    let Segment::Display(display) = read_segment(&WINDOW).expect(&rt, "a segment").0 else {
+        rt.panic("no display")
     };
     let window = Window {
         left: 0,
@@ -169,7 +176,6 @@ fn a_window_inside_the_display(rt: HostRuntime) -> Result<(), Fail> {
         (0, 4, 2),
     );
     same(&rt, display.window, Some(window));
-    Ok(())
 }
 
 #[test]
@@ -325,14 +331,14 @@ fn nothing_is_looked_for_behind_a_faulty_head(rt: HostRuntime) {
 }
 
 #[test]
-fn segments_are_written(rt: HostRuntime) -> Result<(), Fail> {
+fn segments_are_written(rt: HostRuntime) {
     let mut out = Vec::new(rt.alloc());
     let display = SegmentOut::Display {
         version: 0,
         width: 4,
         height: 2,
     };
-    write_segment(1, &display, &mut out)?;
+    write_segment(1, &display, &mut out).expect(&rt, "room");
     let entries = [PageEntry {
         region: 0,
         x: 0,
@@ -344,8 +350,8 @@ fn segments_are_written(rt: HostRuntime) -> Result<(), Fail> {
         state: State::ModeChange,
         entries: &entries,
     };
-    write_segment(1, &page, &mut out)?;
-    write_segment(1, &SegmentOut::End, &mut out)?;
+    write_segment(1, &page, &mut out).expect(&rt, "room");
+    write_segment(1, &SegmentOut::End, &mut out).expect(&rt, "room");
     same(
         &rt,
         out.as_slice(),
@@ -356,11 +362,10 @@ fn segments_are_written(rt: HostRuntime) -> Result<(), Fail> {
         ]
         .as_slice(),
     );
-    Ok(())
 }
 
 #[test]
-fn a_region_is_written(rt: HostRuntime) -> Result<(), Fail> {
+fn a_region_is_written(rt: HostRuntime) {
     let mut out = Vec::new(rt.alloc());
     let head = RegionHead {
         region: 0,
@@ -383,7 +388,7 @@ fn a_region_is_written(rt: HostRuntime) -> Result<(), Fail> {
         head,
         listings: &listings,
     };
-    write_segment(1, &region, &mut out)?;
+    write_segment(1, &region, &mut out).expect(&rt, "room");
     same(
         &rt,
         out.as_slice(),
@@ -393,11 +398,10 @@ fn a_region_is_written(rt: HostRuntime) -> Result<(), Fail> {
         ]
         .as_slice(),
     );
-    Ok(())
 }
 
 #[test]
-fn a_clut_is_written(rt: HostRuntime) -> Result<(), Fail> {
+fn a_clut_is_written(rt: HostRuntime) {
     let mut out = Vec::new(rt.alloc());
     let colour = Colour {
         y: 81,
@@ -417,7 +421,7 @@ fn a_clut_is_written(rt: HostRuntime) -> Result<(), Fail> {
         version: 15,
         entries: &entries,
     };
-    write_segment(1, &clut, &mut out)?;
+    write_segment(1, &clut, &mut out).expect(&rt, "room");
     same(
         &rt,
         out.as_slice(),
@@ -426,18 +430,17 @@ fn a_clut_is_written(rt: HostRuntime) -> Result<(), Fail> {
         ]
         .as_slice(),
     );
-    Ok(())
 }
 
 #[test]
-fn an_object_is_written(rt: HostRuntime) -> Result<(), Fail> {
+fn an_object_is_written(rt: HostRuntime) {
     let top = [0x12, 0x01, 0x00, 0x83, 0x02, 0x00, 0x00, 0xF0];
     let bottom = [0x12, 0x00, 0x84, 0x03, 0x00, 0x00, 0xF0];
     let (Ok(_), Ok(_)) = (
         check_block(&top, Depth::Eight),
         check_block(&bottom, Depth::Eight),
     ) else {
-        return Err(Fail::from("no blocks"));
+        rt.panic("no blocks")
     };
     let mut out = Vec::new(rt.alloc());
     let object = ObjectSeg {
@@ -447,7 +450,7 @@ fn an_object_is_written(rt: HostRuntime) -> Result<(), Fail> {
         top: &top,
         bottom: &bottom,
     };
-    write_segment(1, &SegmentOut::Object(object), &mut out)?;
+    write_segment(1, &SegmentOut::Object(object), &mut out).expect(&rt, "room");
     same(
         &rt,
         out.as_slice(),
@@ -457,5 +460,4 @@ fn an_object_is_written(rt: HostRuntime) -> Result<(), Fail> {
         ]
         .as_slice(),
     );
-    Ok(())
 }

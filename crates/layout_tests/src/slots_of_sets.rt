@@ -4,7 +4,7 @@ ghost use Rattle.schedule.specs.Slots.{IsLoad};
 use crate::same::same;
 use schedule::{Schedule, ScheduleFault};
 use std::alloc::{AllocError, Global};
-use std::test::Fail;
+use std::panic::Expect;
 use sub_base::{Items, Profile, ProfileName, SetLoad, WriteLoad};
 
 /// A set that is sent in units of these lengths.
@@ -43,19 +43,20 @@ fn one_unit(alloc: Global, pts: u64, size: u32) -> Result<WriteLoad, AllocError>
 
 /// The set that takes the whole buffer has a packet in each of the slots 0 to 133.
 #[test]
-fn set_of_a_whole_buffer(rt: HostRuntime) -> Result<(), Fail> {
-    let loads = [one_unit(rt.alloc(), 200_000, 24_576)?];
-    let schedule = Schedule::make(rt.alloc(), &loads, 0, &Profile::of(ProfileName::Sd))?;
+fn set_of_a_whole_buffer(rt: HostRuntime) {
+    let loads = [one_unit(rt.alloc(), 200_000, 24_576).expect(&rt, "memory")];
+    let schedule = Schedule::make(rt.alloc(), &loads, 0, &Profile::of(ProfileName::Sd)).expect(
+        &rt, "memory",
+    );
     let slots = schedule.slots_of(0);
     same(&rt, slots.len(), 134);
     same(&rt, slots.last(), Some(&133));
     same(&rt, schedule.done(0), 118_341);
-    Ok(())
 }
 
 #[test]
-fn set_larger_than_the_buffer(rt: HostRuntime) -> Result<(), Fail> {
-    let loads = [one_unit(rt.alloc(), 200_000, 24_577)?];
+fn set_larger_than_the_buffer(rt: HostRuntime) {
+    let loads = [one_unit(rt.alloc(), 200_000, 24_577).expect(&rt, "memory")];
     let fault = Schedule::make(rt.alloc(), &loads, 0, &Profile::of(ProfileName::Sd)).err();
     same(
         &rt,
@@ -65,17 +66,16 @@ fn set_larger_than_the_buffer(rt: HostRuntime) -> Result<(), Fail> {
             size: 24_577,
         }),
     );
-    Ok(())
 }
 
 /// A packet of 184 bytes is done at 184, and no earlier.
 #[test]
-fn set_done_in_time_or_late(rt: HostRuntime) -> Result<(), Fail> {
+fn set_done_in_time_or_late(rt: HostRuntime) {
     let profile = Profile::of(ProfileName::Sd);
-    let early = [one_unit(rt.alloc(), 184, 184)?];
-    let schedule = Schedule::make(rt.alloc(), &early, 0, &profile)?;
+    let early = [one_unit(rt.alloc(), 184, 184).expect(&rt, "memory")];
+    let schedule = Schedule::make(rt.alloc(), &early, 0, &profile).expect(&rt, "memory");
     same(&rt, schedule.done(0), 184);
-    let late = [one_unit(rt.alloc(), 183, 184)?];
+    let late = [one_unit(rt.alloc(), 183, 184).expect(&rt, "memory")];
     let fault = Schedule::make(rt.alloc(), &late, 0, &profile).err();
     same(
         &rt,
@@ -86,18 +86,19 @@ fn set_done_in_time_or_late(rt: HostRuntime) -> Result<(), Fail> {
             pts: 183,
         }),
     );
-    Ok(())
 }
 
 /// The second set waits in slot 133 until the first has left the buffer: its slots are 109 to 132
 /// and 137 to 221.
 #[test]
-fn set_that_waits_for_room(rt: HostRuntime) -> Result<(), Fail> {
+fn set_that_waits_for_room(rt: HostRuntime) {
     let loads = [
-        one_unit(rt.alloc(), 300_000, 20_000)?,
-        one_unit(rt.alloc(), 400_000, 20_000)?,
+        one_unit(rt.alloc(), 300_000, 20_000).expect(&rt, "memory"),
+        one_unit(rt.alloc(), 400_000, 20_000).expect(&rt, "memory"),
     ];
-    let schedule = Schedule::make(rt.alloc(), &loads, 0, &Profile::of(ProfileName::Sd))?;
+    let schedule = Schedule::make(rt.alloc(), &loads, 0, &Profile::of(ProfileName::Sd)).expect(
+        &rt, "memory",
+    );
     same(&rt, schedule.all_slots().len(), 218);
     let first = schedule.slots_of(0);
     assert_eq!(rt; first.len(), 109);
@@ -110,37 +111,39 @@ fn set_that_waits_for_room(rt: HostRuntime) -> Result<(), Fail> {
     same(&rt, second[108], 221);
     same(&rt, schedule.done(0), 96_140);
     same(&rt, schedule.done(1), 320_000);
-    Ok(())
 }
 
 /// Three units with 327 packets each: they begin 450,000 ticks before the set is shown.
 #[test]
-fn set_in_three_units(rt: HostRuntime) -> Result<(), Fail> {
+fn set_in_three_units(rt: HostRuntime) {
     let load = SetLoad {
         pts: 500_000,
         size: 180_158,
         painted: 32_400,
     };
-    let loads = [write_load(rt.alloc(), load, 60_014, &[60_090, 60_031, 60_037])?];
-    let schedule = Schedule::make(rt.alloc(), &loads, 0, &Profile::of(ProfileName::Large))?;
+    let loads = [write_load(rt.alloc(), load, 60_014, &[60_090, 60_031, 60_037]).expect(
+        &rt, "room",
+    )];
+    let schedule = Schedule::make(rt.alloc(), &loads, 0, &Profile::of(ProfileName::Large)).expect(
+        &rt, "memory",
+    );
     let slots = schedule.slots_of(0);
     same(&rt, slots.len(), 981);
     same(&rt, slots.first(), Some(&556));
     same(&rt, slots.last(), Some(&1_536));
     same(&rt, schedule.done(0), 350_798);
-    Ok(())
 }
 
 /// A segment of 65,614 bytes fits no PES packet. The size is tested before it, and the time behind
 /// it.
 #[test]
-fn segment_too_long(rt: HostRuntime) -> Result<(), Fail> {
+fn segment_too_long(rt: HostRuntime) {
     let load = SetLoad {
         pts: 60,
         size: 65_718,
         painted: 32_400,
     };
-    let loads = [write_load(rt.alloc(), load, 65_614, &[64, 65_631, 23])?];
+    let loads = [write_load(rt.alloc(), load, 65_614, &[64, 65_631, 23]).expect(&rt, "room")];
     let large = Schedule::make(rt.alloc(), &loads, 0, &Profile::of(ProfileName::Large)).err();
     same(
         &rt,
@@ -159,19 +162,19 @@ fn segment_too_long(rt: HostRuntime) -> Result<(), Fail> {
             size: 65_718,
         }),
     );
-    Ok(())
 }
 
 /// A segment of 65,524 bytes fills its PES packet.
 #[test]
-fn segment_that_just_fits(rt: HostRuntime) -> Result<(), Fail> {
+fn segment_that_just_fits(rt: HostRuntime) {
     let load = SetLoad {
         pts: 500_000,
         size: 65_564,
         painted: 0,
     };
-    let loads = [write_load(rt.alloc(), load, 65_524, &[65_541, 23])?];
-    let schedule = Schedule::make(rt.alloc(), &loads, 0, &Profile::of(ProfileName::Large))?;
+    let loads = [write_load(rt.alloc(), load, 65_524, &[65_541, 23]).expect(&rt, "room")];
+    let schedule = Schedule::make(rt.alloc(), &loads, 0, &Profile::of(ProfileName::Large)).expect(
+        &rt, "memory",
+    );
     same(&rt, schedule.slots_of(0).len(), 358);
-    Ok(())
 }

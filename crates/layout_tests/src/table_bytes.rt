@@ -2,7 +2,7 @@ ghost use Rattle.std.specs.Prelude.{◌<◌, ◌^◌};
 
 use crate::same::same;
 use psi_tables::{Section, SectionFault, Service, crc, read_section, write_pat, write_pmt};
-use std::test::Fail;
+use std::panic::Expect;
 
 /// A PAT of stream 1 that lists number 1 with PID 4096.
 const PAT: [u8; 16] = [
@@ -54,8 +54,8 @@ fn the_check_value_of_the_crc(rt: HostRuntime) {
 }
 
 #[test]
-fn tables_name_services(rt: HostRuntime) -> Result<(), Fail> {
-    let pat = read_section(&PAT)?;
+fn tables_name_services(rt: HostRuntime) {
+    let pat = read_section(&PAT).expect(&rt, "a section");
     same(
         &rt,
         pat,
@@ -69,14 +69,14 @@ fn tables_name_services(rt: HostRuntime) -> Result<(), Fail> {
         (pat.pmt_of(1), pat.pmt_of(2), pat.subtitles_of(1)),
         (Some(4096), None, None),
     );
-    let plain = read_section(&PLAIN_PAT)?;
+    let plain = read_section(&PLAIN_PAT).expect(&rt, "a section");
     same(
         &rt,
         (plain.pmt_of(0), plain.pmt_of(7)),
         (Some(16), Some(0x123)),
     );
 
-    let pmt = read_section(&PMT)?;
+    let pmt = read_section(&PMT).expect(&rt, "a section");
     same(
         &rt,
         pmt,
@@ -90,8 +90,13 @@ fn tables_name_services(rt: HostRuntime) -> Result<(), Fail> {
         (pmt.subtitles_of(258), pmt.subtitles_of(1), pmt.pmt_of(258)),
         (Some(260), None, None),
     );
-    same(&rt, read_section(&SHORT_PMT)?.subtitles_of(5), Some(0x1FFE));
-    Ok(())
+    same(
+        &rt,
+        read_section(&SHORT_PMT)
+            .expect(&rt, "a section")
+            .subtitles_of(5),
+        Some(0x1FFE),
+    );
 }
 
 #[test]
@@ -299,7 +304,7 @@ fn service(place: u16) -> Service
 }
 
 #[test]
-fn tables_are_written_behind_what_was_there(rt: HostRuntime) -> Result<(), Fail> {
+fn tables_are_written_behind_what_was_there(rt: HostRuntime) {
     let services = [
         service(0),
         service(1),
@@ -311,8 +316,8 @@ fn tables_are_written_behind_what_was_there(rt: HostRuntime) -> Result<(), Fail>
         service(7),
     ];
     let mut out = Vec::new(rt.alloc());
-    out.extend_from_slice(&PAT)?;
-    write_pat(&services, &mut out)?;
+    out.extend_from_slice(&PAT).expect(&rt, "memory");
+    write_pat(&services, &mut out).expect(&rt, "room");
     same(&rt, &out[..16], PAT.as_slice());
     same(&rt, &out[16..], EIGHT.as_slice());
 
@@ -324,7 +329,6 @@ fn tables_are_written_behind_what_was_there(rt: HostRuntime) -> Result<(), Fail>
         language: *b"fre",
     };
     out.clear();
-    write_pmt(&french, &mut out)?;
+    write_pmt(&french, &mut out).expect(&rt, "room");
     same(&rt, out.as_slice(), FRENCH.as_slice());
-    Ok(())
 }

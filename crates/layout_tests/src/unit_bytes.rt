@@ -1,6 +1,6 @@
 use crate::same::{same, same_at};
 use pes_packets::{PesFault, read_pes, unit_lengths, write_pes, write_unit};
-use std::test::Fail;
+use std::panic::Expect;
 
 /// The second packet of the first worked stream: its time is 180000, and it has a page segment and
 /// an end segment.
@@ -10,12 +10,16 @@ const SECOND_UNIT: [u8; 31] = [
 ];
 
 #[test]
-fn worked_packet_is_read_and_written(rt: HostRuntime) -> Result<(), Fail> {
-    let packet = read_pes(&SECOND_UNIT)?;
+fn worked_packet_is_read_and_written(rt: HostRuntime) {
+    let packet = read_pes(&SECOND_UNIT).expect(&rt, "a PES packet");
     same(&rt, packet.pts, 180_000);
     same(
         &rt,
-        packet.segments.to_vec(rt.alloc())?.as_slice(),
+        packet
+            .segments
+            .to_vec(rt.alloc())
+            .expect(&rt, "memory")
+            .as_slice(),
         &SECOND_UNIT[16..],
     );
 
@@ -24,18 +28,18 @@ fn worked_packet_is_read_and_written(rt: HostRuntime) -> Result<(), Fail> {
         180_000,
         &[0x20, 0x00, 0x0F, 0x80, 0x00, 0x01, 0x00, 0x00, 0xFF],
         &mut out,
-    )?;
+    )
+    .expect(&rt, "room");
     same(&rt, out.len(), 23);
-    same(&rt, read_pes(&out)?.pts, 180_000);
+    same(&rt, read_pes(&out).expect(&rt, "a PES packet").pts, 180_000);
 
     let mut unit = Vec::new(rt.alloc());
-    write_unit(180_000, &SECOND_UNIT[16..30], &mut unit)?;
+    write_unit(180_000, &SECOND_UNIT[16..30], &mut unit).expect(&rt, "room");
     same(&rt, unit.as_slice(), SECOND_UNIT.as_slice());
-    Ok(())
 }
 
 #[test]
-fn one_wrong_byte_is_the_first_fault(rt: HostRuntime) -> Result<(), Fail> {
+fn one_wrong_byte_is_the_first_fault(rt: HostRuntime) {
     let table = [
         (0, 0x01, PesFault::NoPrefix),
         (3, 0xC0, PesFault::OtherStream(0xC0)),
@@ -65,27 +69,25 @@ fn one_wrong_byte_is_the_first_fault(rt: HostRuntime) -> Result<(), Fail> {
             Some(PesFault::NoPrefix),
         );
     }
-    Ok(())
 }
 
 /// A unit takes segments up to 65,524 bytes, one more begins the next unit, and a longer segment
 /// stands alone.
 #[test]
-fn segments_are_shared_out_to_units(rt: HostRuntime) -> Result<(), Fail> {
+fn segments_are_shared_out_to_units(rt: HostRuntime) {
     let mut out = Vec::new(rt.alloc());
-    unit_lengths(&[], &mut out)?;
+    unit_lengths(&[], &mut out).expect(&rt, "memory");
     same(&rt, out.len(), 0);
-    unit_lengths(&[11, 8, 6], &mut out)?;
+    unit_lengths(&[11, 8, 6], &mut out).expect(&rt, "memory");
     same(&rt, out.as_slice(), [42].as_slice());
-    unit_lengths(&[65_507, 11, 6], &mut out)?;
+    unit_lengths(&[65_507, 11, 6], &mut out).expect(&rt, "memory");
     same(&rt, out.as_slice(), [42, 65_541].as_slice());
-    unit_lengths(&[65_507, 12, 6], &mut out)?;
+    unit_lengths(&[65_507, 12, 6], &mut out).expect(&rt, "memory");
     same(&rt, out.as_slice(), [42, 65_541, 65_536, 23].as_slice());
-    unit_lengths(&[47, 65_614, 6], &mut out)?;
+    unit_lengths(&[47, 65_614, 6], &mut out).expect(&rt, "memory");
     same(
         &rt,
         out.as_slice(),
         [42, 65_541, 65_536, 23, 64, 65_631, 23].as_slice(),
     );
-    Ok(())
 }

@@ -5,8 +5,8 @@ use crate::painted_objects::{TWO_BITS, put_object, put_region};
 use crate::same::{same, same_at};
 use crate::taken_sets::{put, sd_core};
 use page_core::{Core, Scene, SetEnd};
+use std::panic::Expect;
 use std::process::Abort;
-use std::test::Fail;
 use sub_base::{CLEAR, Colour, Depth};
 
 /// The default colours of a CLUT: 1, 2 and 3 of two bits; 1 and 9 of four bits; and 1 of eight
@@ -85,10 +85,9 @@ const PAGE: &[u8] = &[15, 16, 0, 1, 0, 8, 10, 8, 0, 0, 0, 0, 0, 0];
 /// Packed codes of each depth in default colours, whole bytes and some codes of one more: the codes
 /// are painted as a string, and the packed row and the row of the picture are looked at.
 #[test]
-fn colours_of_packed_codes(rt: HostRuntime) -> Result<(), Fail> {
-    let mut core = sd_core(rt.alloc())?;
+fn colours_of_packed_codes(rt: HostRuntime) {
+    let mut core = sd_core(rt.alloc()).expect(&rt, "memory");
     colours_of_packed_codes_in(&rt, &mut core);
-    Ok(())
 }
 
 fn colours_of_packed_codes_in<R: Abort>(rt: &R, core: &mut Core) {
@@ -159,10 +158,9 @@ const TWO_PLACES: &[u8] = &[
 /// Rows of a display of twelve columns, whose window has columns 2 to 8 and rows 1 to 3. A region
 /// of eight by three pixels has its corner at (3, 2), and, drawn before it, at (2, 2).
 #[test]
-fn rows_of_a_window(rt: HostRuntime) -> Result<(), Fail> {
-    let mut core = sd_core(rt.alloc())?;
+fn rows_of_a_window(rt: HostRuntime) {
+    let mut core = sd_core(rt.alloc()).expect(&rt, "memory");
     rows_of_a_window_in(&rt, &mut core);
-    Ok(())
 }
 
 fn rows_of_a_window_in<R: Abort>(rt: &R, core: &mut Core) {

@@ -2,8 +2,8 @@ use crate::same::{same, same_at};
 use crate::taken_sets::{sd_core, take};
 use decoder_model::{SetEnd, SetFault};
 use page_core::Core;
+use std::panic::Expect;
 use std::process::Abort;
-use std::test::Fail;
 use stream_syntax::{CodeFault, CodeKind, SegmentFault, SegmentKind};
 use sub_base::{Profile, ProfileName};
 
@@ -11,10 +11,11 @@ use sub_base::{Profile, ProfileName};
 /// changes none.
 #[test]
 #[tactic(auto, using(page_core::proofs::Counts::ProfileNodes::few_nodes))]
-fn lifted_times(rt: HostRuntime) -> Result<(), Fail> {
-    let mut core = Core::make(rt.alloc(), &Profile::of(ProfileName::Sd), 1, 100)?;
+fn lifted_times(rt: HostRuntime) {
+    let mut core = Core::make(rt.alloc(), &Profile::of(ProfileName::Sd), 1, 100).expect(
+        &rt, "memory",
+    );
     lifted_times_in(&rt, &mut core);
-    Ok(())
 }
 
 fn lifted_times_in<R: Abort>(rt: &R, core: &mut Core) {
@@ -59,7 +60,7 @@ fn lifted_times_in<R: Abort>(rt: &R, core: &mut Core) {
 /// All memory is free before the first set, after a loss and after a broken set.
 #[test]
 #[tactic(auto, using(page_core::proofs::Counts::ProfileNodes::few_nodes))]
-fn free_memory(rt: HostRuntime) -> Result<(), Fail> {
+fn free_memory(rt: HostRuntime) {
     let rows = [
         (ProfileName::Sd, 512, 81_920),
         (ProfileName::Hd, 2_048, 327_680),
@@ -67,10 +68,9 @@ fn free_memory(rt: HostRuntime) -> Result<(), Fail> {
         (ProfileName::Large, 8_192, 4_194_304),
     ];
     for (name, nodes, pixels) in rows {
-        let mut core = Core::make(rt.alloc(), &Profile::of(name), 7, 0)?;
+        let mut core = Core::make(rt.alloc(), &Profile::of(name), 7, 0).expect(&rt, "memory");
         free_memory_in(&rt, &mut core, (nodes, pixels));
     }
-    Ok(())
 }
 
 fn free_memory_in<R: Abort>(rt: &R, core: &mut Core, all: (u32, u64)) {
@@ -109,10 +109,9 @@ const END: &[u8] = &[15, 128, 0, 1, 0, 0];
 /// The first fault of a set by its segments one by one; and, where they have none, what the set is
 /// by its page in an epoch of its own.
 #[test]
-fn segments_of_sets(rt: HostRuntime) -> Result<(), Fail> {
-    let mut core = sd_core(rt.alloc())?;
+fn segments_of_sets(rt: HostRuntime) {
+    let mut core = sd_core(rt.alloc()).expect(&rt, "memory");
     segments_of_sets_in(&rt, &mut core);
-    Ok(())
 }
 
 fn segments_of_sets_in<R: Abort>(rt: &R, core: &mut Core) {
@@ -160,10 +159,9 @@ const MORE: &[u8] = &[15, 17, 0, 1, 0, 10, 3, 8, 2, 208, 0, 40, 108, 0, 0, 0];
 
 /// The first fault of a set by an epoch that has nothing before it.
 #[test]
-fn sets_in_a_new_epoch(rt: HostRuntime) -> Result<(), Fail> {
-    let mut core = sd_core(rt.alloc())?;
+fn sets_in_a_new_epoch(rt: HostRuntime) {
+    let mut core = sd_core(rt.alloc()).expect(&rt, "memory");
     sets_in_a_new_epoch_in(&rt, &mut core);
-    Ok(())
 }
 
 fn sets_in_a_new_epoch_in<R: Abort>(rt: &R, core: &mut Core) {
@@ -210,14 +208,13 @@ const OTHER: &[u8] = &[15, 18, 0, 1, 0, 8, 8, 47, 1, 193, 81, 240, 90, 192];
 /// The nodes that a set needs in an epoch that has nothing before it: a core without nodes tells
 /// them, and tells them again.
 #[test]
-fn nodes_of_sets(rt: HostRuntime) -> Result<(), Fail> {
+fn nodes_of_sets(rt: HostRuntime) {
     let none = Profile {
         nodes: 0,
         ..Profile::of(ProfileName::Sd)
     };
-    let mut core = Core::make(rt.alloc(), &none, 1, 0)?;
+    let mut core = Core::make(rt.alloc(), &none, 1, 0).expect(&rt, "memory");
     nodes_of_sets_in(&rt, &mut core);
-    Ok(())
 }
 
 fn nodes_of_sets_in<R: Abort>(rt: &R, core: &mut Core) {
@@ -247,10 +244,9 @@ fn nodes_of_sets_in<R: Abort>(rt: &R, core: &mut Core) {
 
 /// The nodes that CLUT segments leave free: one whose version is known takes none.
 #[test]
-fn nodes_of_cluts(rt: HostRuntime) -> Result<(), Fail> {
-    let mut core = sd_core(rt.alloc())?;
+fn nodes_of_cluts(rt: HostRuntime) {
+    let mut core = sd_core(rt.alloc()).expect(&rt, "memory");
     nodes_of_cluts_in(&rt, &mut core);
-    Ok(())
 }
 
 fn nodes_of_cluts_in<R: Abort>(rt: &R, core: &mut Core) {
@@ -280,10 +276,9 @@ const NORMAL: &[u8] = &[15, 16, 0, 1, 0, 2, 10, 0];
 /// A set begins an epoch, goes on with the one that is known, or waits: behind a loss, and behind a
 /// set with a CLUT of three nodes, which are free again where an epoch begins.
 #[test]
-fn epochs_begin_and_go_on(rt: HostRuntime) -> Result<(), Fail> {
-    let mut core = sd_core(rt.alloc())?;
+fn epochs_begin_and_go_on(rt: HostRuntime) {
+    let mut core = sd_core(rt.alloc()).expect(&rt, "memory");
     epochs_begin_and_go_on_in(&rt, &mut core);
-    Ok(())
 }
 
 fn epochs_begin_and_go_on_in<R: Abort>(rt: &R, core: &mut Core) {

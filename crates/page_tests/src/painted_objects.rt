@@ -4,8 +4,8 @@ ghost use Rattle.decoder_model.specs.declared.set_end.SetEnd.TheVariants.{Shown}
 use crate::same::same_at;
 use crate::taken_sets::{in_segment, put, sd_core};
 use page_core::{Core, SetEnd};
+use std::panic::Expect;
 use std::process::Abort;
-use std::test::Fail;
 use stream_syntax::{CodeFault, CodeKind, SegmentKind};
 use sub_base::Depth;
 
@@ -126,10 +126,9 @@ fn is_painted<R: Abort>(rt: &R, core: &mut Core, pts: u32, case: &Painted<'_>) {
 /// A string of each depth in a region of each depth, by the default map tables. The bottom block is
 /// empty: the top block serves for both fields.
 #[test]
-fn strings_of_each_depth(rt: HostRuntime) -> Result<(), Fail> {
-    let mut core = sd_core(rt.alloc())?;
+fn strings_of_each_depth(rt: HostRuntime) {
+    let mut core = sd_core(rt.alloc()).expect(&rt, "memory");
     strings_of_each_depth_in(&rt, &mut core);
-    Ok(())
 }
 
 fn strings_of_each_depth_in<R: Abort>(rt: &R, core: &mut Core) {
@@ -188,10 +187,9 @@ fn strings_of_each_depth_in<R: Abort>(rt: &R, core: &mut Core) {
 
 /// Strings that are deeper than the region, in the top block and in the bottom block.
 #[test]
-fn strings_too_deep(rt: HostRuntime) -> Result<(), Fail> {
-    let mut core = sd_core(rt.alloc())?;
+fn strings_too_deep(rt: HostRuntime) {
+    let mut core = sd_core(rt.alloc()).expect(&rt, "memory");
     strings_too_deep_in(&rt, &mut core);
-    Ok(())
 }
 
 fn strings_too_deep_in<R: Abort>(rt: &R, core: &mut Core) {
@@ -226,10 +224,9 @@ fn strings_too_deep_in<R: Abort>(rt: &R, core: &mut Core) {
 /// A map table, code 1 left out as it is read, fields of their own, lines below the first one, and
 /// what passes the region.
 #[test]
-fn objects_in_a_region(rt: HostRuntime) -> Result<(), Fail> {
-    let mut core = sd_core(rt.alloc())?;
+fn objects_in_a_region(rt: HostRuntime) {
+    let mut core = sd_core(rt.alloc()).expect(&rt, "memory");
     objects_in_a_region_in(&rt, &mut core);
-    Ok(())
 }
 
 fn objects_in_a_region_in<R: Abort>(rt: &R, core: &mut Core) {

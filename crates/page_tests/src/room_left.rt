@@ -7,8 +7,8 @@ use crate::taken_sets::{
 };
 use decoder_model::{SetEnd, SetFault};
 use page_core::Core;
+use std::panic::Expect;
 use std::process::Abort;
-use std::test::Fail;
 use sub_base::{CLEAR, Colour};
 
 // A mode change that lists no region. Regions of 8 bits: 2 of 720 by 80 pixels in versions 0 and 1;
@@ -33,10 +33,9 @@ const SMALL: &[u8] = &[15, 17, 0, 1, 0, 10, 5, 8, 0, 5, 0, 3, 0x24, 0, 0, 0];
 /// Regions of earlier sets keep their bytes: a new region has what they leave, a known one needs
 /// none, and all is free behind a set for which it is not enough.
 #[test]
-fn pixels_of_earlier_sets(rt: HostRuntime) -> Result<(), Fail> {
-    let mut core = sd_core(rt.alloc())?;
+fn pixels_of_earlier_sets(rt: HostRuntime) {
+    let mut core = sd_core(rt.alloc()).expect(&rt, "memory");
     pixels_of_earlier_sets_in(&rt, &mut core);
-    Ok(())
 }
 
 fn pixels_of_earlier_sets_in<R: Abort>(rt: &R, core: &mut Core) {
@@ -110,10 +109,9 @@ fn take_coloured(core: &mut Core, pts: u32, set: Coloured) -> SetEnd {
 /// brought is a node. A segment in a version that is known brings none, and listings replace those
 /// before them.
 #[test]
-fn nodes_of_earlier_sets(rt: HostRuntime) -> Result<(), Fail> {
-    let mut core = sd_core(rt.alloc())?;
+fn nodes_of_earlier_sets(rt: HostRuntime) {
+    let mut core = sd_core(rt.alloc()).expect(&rt, "memory");
     nodes_of_earlier_sets_in(&rt, &mut core);
-    Ok(())
 }
 
 fn nodes_of_earlier_sets_in<R: Abort>(rt: &R, core: &mut Core) {
@@ -153,10 +151,9 @@ const CLUT_LAST: &[u8] = &[15, 18, 0, 1, 0, 8, 0, 0xF0, 1, 0x81, 100, 128, 128, 
 /// Version 0 comes behind version 15 for objects too: it paints again, and then other content in
 /// version 0 does not.
 #[test]
-fn object_versions_go_round(rt: HostRuntime) -> Result<(), Fail> {
-    let mut core = sd_core(rt.alloc())?;
+fn object_versions_go_round(rt: HostRuntime) {
+    let mut core = sd_core(rt.alloc()).expect(&rt, "memory");
     object_versions_go_round_in(&rt, &mut core);
-    Ok(())
 }
 
 fn object_versions_go_round_in<R: Abort>(rt: &R, core: &mut Core) {
@@ -179,10 +176,9 @@ fn object_versions_go_round_in<R: Abort>(rt: &R, core: &mut Core) {
 
 /// The same for CLUTs.
 #[test]
-fn clut_versions_go_round(rt: HostRuntime) -> Result<(), Fail> {
-    let mut core = sd_core(rt.alloc())?;
+fn clut_versions_go_round(rt: HostRuntime) {
+    let mut core = sd_core(rt.alloc()).expect(&rt, "memory");
     clut_versions_go_round_in(&rt, &mut core);
-    Ok(())
 }
 
 fn clut_versions_go_round_in<R: Abort>(rt: &R, core: &mut Core) {

@@ -8,8 +8,8 @@ use crate::taken_sets::{
 use decoder_model::{SetEnd, SetFault};
 use page_core::Core;
 use std::alloc::Global;
+use std::panic::Expect;
 use std::process::Abort;
-use std::test::Fail;
 use stream_syntax::{CodeFault, CodeKind, SegmentKind};
 
 // A segment, and the place and the kind of its fault.
@@ -18,10 +18,9 @@ type Row<'a> = (&'a [u8], u32, SegmentKind);
 // A page is shown; then a set with the segment is broken by it, though the segment behind it has a
 // fault as well. The place counts from the segment's first byte, and all memory is free behind the
 // set.
-fn are_broken<R: Abort>(rt: &R, alloc: Global, rows: &[Row<'_>]) -> Result<(), Fail> {
-    let mut core = sd_core(alloc)?;
+fn are_broken<R: Abort>(rt: &R, alloc: Global, rows: &[Row<'_>]) {
+    let mut core = sd_core(alloc).expect(rt, "memory");
     are_broken_in(rt, &mut core, rows);
-    Ok(())
 }
 
 fn are_broken_in<R: Abort>(rt: &R, core: &mut Core, rows: &[Row<'_>]) {
@@ -43,7 +42,7 @@ fn are_broken_in<R: Abort>(rt: &R, core: &mut Core, rows: &[Row<'_>]) {
 
 /// A page's length is that of its two bytes and six for each entry. It is tested before the state.
 #[test]
-fn pages(rt: HostRuntime) -> Result<(), Fail> {
+fn pages(rt: HostRuntime) {
     let rows: [Row<'_>; 5] = [
         (&[15, 16, 0, 1, 0, 0], 4, SegmentKind::BadLength),
         (&[15, 16, 0, 1, 0, 1, 10], 4, SegmentKind::BadLength),
@@ -60,7 +59,7 @@ fn pages(rt: HostRuntime) -> Result<(), Fail> {
 
 /// A region has ten bytes at least, sides of a pixel at least, and one of three depths.
 #[test]
-fn regions(rt: HostRuntime) -> Result<(), Fail> {
+fn regions(rt: HostRuntime) {
     let rows: [Row<'_>; 7] = [
         (
             &[15, 17, 0, 1, 0, 9, 1, 8, 0, 2, 0, 1, 0x24, 0, 0],
@@ -104,7 +103,7 @@ fn regions(rt: HostRuntime) -> Result<(), Fail> {
 /// The listings of a region are tested from the left: whether they have six bytes, then their type,
 /// then their provider.
 #[test]
-fn listings(rt: HostRuntime) -> Result<(), Fail> {
+fn listings(rt: HostRuntime) {
     let one = |length, kinds| [
         15, 17, 0, 1, 0, length, 1, 8, 0, 2, 0, 1, 0x24, 0, 0, 0, 0, 5, kinds, 0, 0, 0,
     ];
@@ -127,7 +126,7 @@ fn listings(rt: HostRuntime) -> Result<(), Fail> {
 
 /// A CLUT has two bytes at least, and each entry six in the full range and four else.
 #[test]
-fn cluts(rt: HostRuntime) -> Result<(), Fail> {
+fn cluts(rt: HostRuntime) {
     let rows: [Row<'_>; 5] = [
         (&[15, 18, 0, 1, 0, 0], 4, SegmentKind::BadLength),
         (&[15, 18, 0, 1, 0, 1, 0], 4, SegmentKind::BadLength),
@@ -153,7 +152,7 @@ fn cluts(rt: HostRuntime) -> Result<(), Fail> {
 /// An object's coding method is tested where it has three bytes, and then its length: seven bytes
 /// and both blocks, or a byte 0 more.
 #[test]
-fn objects(rt: HostRuntime) -> Result<(), Fail> {
+fn objects(rt: HostRuntime) {
     let rows: [Row<'_>; 8] = [
         (&[15, 19, 0, 1, 0, 2, 0, 5], 4, SegmentKind::BadLength),
         (
@@ -202,7 +201,7 @@ fn code(block: u32, place: u32, kind: CodeKind) -> (u32, SegmentKind) {
 /// The first sub-block of the top block that is not in the grammar, and, where there is none, that
 /// of the bottom block.
 #[test]
-fn codes(rt: HostRuntime) -> Result<(), Fail> {
+fn codes(rt: HostRuntime) {
     let rows: [(&[u8], (u32, SegmentKind)); 7] = [
         (
             &[15, 19, 0, 1, 0, 9, 0, 5, 0, 0, 2, 0, 0, 0x10, 0x55],
@@ -241,7 +240,7 @@ fn codes(rt: HostRuntime) -> Result<(), Fail> {
 
 /// A display has five bytes at least, and thirteen with a window, which lies in the display.
 #[test]
-fn displays(rt: HostRuntime) -> Result<(), Fail> {
+fn displays(rt: HostRuntime) {
     let window = |left, right, top, bottom| [
         15, 20, 0, 1, 0, 13, 8, 0, 3, 0, 1, 0, left, 0, right, 0, top, 0, bottom,
     ];
@@ -263,10 +262,9 @@ fn displays(rt: HostRuntime) -> Result<(), Fail> {
 /// A page, a display and a region may be once in a set, with the same version or another; CLUTs,
 /// objects and ends may be there again.
 #[test]
-fn twice_in_a_set(rt: HostRuntime) -> Result<(), Fail> {
-    let mut core = sd_core(rt.alloc())?;
+fn twice_in_a_set(rt: HostRuntime) {
+    let mut core = sd_core(rt.alloc()).expect(&rt, "memory");
     twice_in_a_set_in(&rt, &mut core);
-    Ok(())
 }
 
 fn twice_in_a_set_in<R: Abort>(rt: &R, core: &mut Core) {

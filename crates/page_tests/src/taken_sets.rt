@@ -5,10 +5,10 @@ use crate::same::{same, same_at};
 use decoder_model::{SetEnd, SetFault};
 use page_core::{Core, Scene};
 use std::alloc::Global;
+use std::panic::Expect;
 use std::process::Abort;
-use std::test::Fail;
 use stream_syntax::{CodeFault, CodeKind, SegmentFault, SegmentKind};
-use sub_base::{CLEAR, Colour, Profile, ProfileName};
+use sub_base::{CLEAR, Colour, NoMemory, Profile, ProfileName};
 
 // Segments of page 1. Pages: a mode change that lists region 1, the same of state normal, and one
 // of state normal without entries.
@@ -103,7 +103,7 @@ const GREY: Colour = Colour {
 };
 
 // A core for page 1 that was handed nothing.
-pub(crate) fn sd_core(alloc: Global) -> Result<Core, Fail> {
+pub(crate) fn sd_core(alloc: Global) -> Result<Core, NoMemory> {
     Ok(Core::make(alloc, &Profile::of(ProfileName::Sd), 1, 0)?)
 }
 
@@ -190,10 +190,9 @@ pub(crate) fn in_segment(place: u32, kind: SegmentKind) -> SetEnd {
 /// follows; and each fault of a set by its epoch once, but the one of a full pool: the answers, and
 /// what is free.
 #[test]
-fn verdicts(rt: HostRuntime) -> Result<(), Fail> {
-    let mut core = sd_core(rt.alloc())?;
+fn verdicts(rt: HostRuntime) {
+    let mut core = sd_core(rt.alloc()).expect(&rt, "memory");
     verdicts_in(&rt, &mut core);
-    Ok(())
 }
 
 fn verdicts_in<R: Abort>(rt: &R, core: &mut Core) {
@@ -313,10 +312,9 @@ fn verdicts_in<R: Abort>(rt: &R, core: &mut Core) {
 /// All nodes are taken, by listings or by entries of the page, whichever were there before; and one
 /// more is too many.
 #[test]
-fn full_pools(rt: HostRuntime) -> Result<(), Fail> {
-    let mut core = sd_core(rt.alloc())?;
+fn full_pools(rt: HostRuntime) {
+    let mut core = sd_core(rt.alloc()).expect(&rt, "memory");
     full_pools_in(&rt, &mut core);
-    Ok(())
 }
 
 fn full_pools_in<R: Abort>(rt: &R, core: &mut Core) {
@@ -340,10 +338,9 @@ fn full_pools_in<R: Abort>(rt: &R, core: &mut Core) {
 /// A string of each depth in a region of each depth: the packed row, or none where the string is
 /// too deep.
 #[test]
-fn depths(rt: HostRuntime) -> Result<(), Fail> {
-    let mut core = sd_core(rt.alloc())?;
+fn depths(rt: HostRuntime) {
+    let mut core = sd_core(rt.alloc()).expect(&rt, "memory");
     depths_in(&rt, &mut core);
-    Ok(())
 }
 
 fn depths_in<R: Abort>(rt: &R, core: &mut Core) {
@@ -370,10 +367,9 @@ fn depths_in<R: Abort>(rt: &R, core: &mut Core) {
 /// Versions: a region or an object with the version that is known is held, whatever it has;
 /// listings are unpainted behind a region's segment; and version 0 comes behind version 15.
 #[test]
-fn versions(rt: HostRuntime) -> Result<(), Fail> {
-    let mut core = sd_core(rt.alloc())?;
+fn versions(rt: HostRuntime) {
+    let mut core = sd_core(rt.alloc()).expect(&rt, "memory");
     versions_in(&rt, &mut core);
-    Ok(())
 }
 
 fn versions_in<R: Abort>(rt: &R, core: &mut Core) {
@@ -402,10 +398,9 @@ fn versions_in<R: Abort>(rt: &R, core: &mut Core) {
 /// Colours: a CLUT with the version that is known is held, and a new epoch has default colours. The
 /// display of an epoch stays where a set defines none.
 #[test]
-fn colours_and_displays(rt: HostRuntime) -> Result<(), Fail> {
-    let mut core = sd_core(rt.alloc())?;
+fn colours_and_displays(rt: HostRuntime) {
+    let mut core = sd_core(rt.alloc()).expect(&rt, "memory");
     colours_and_displays_in(&rt, &mut core);
-    Ok(())
 }
 
 fn colours_and_displays_in<R: Abort>(rt: &R, core: &mut Core) {

@@ -3,7 +3,7 @@ ghost use Rattle.std.specs.Prelude.{◌≡◌};
 use crate::same::same;
 use block_painting::{FieldPlace, paint_block};
 use pixel_store::Store;
-use std::test::Fail;
+use std::panic::Expect;
 use stream_syntax::Listing;
 use sub_base::Depth;
 
@@ -64,9 +64,9 @@ fn bottom_from(x: u16, y: u16) -> FieldPlace
 /// Strings of all depths go behind one another, by the default tables, and the lines of the top
 /// field to every second row.
 #[test]
-fn top_field(rt: HostRuntime) -> Result<(), Fail> {
-    let mut store = Store::make(rt.alloc(), 40)?;
-    let slot = store.place(10, 4, Depth::Eight)?;
+fn top_field(rt: HostRuntime) {
+    let mut store = Store::make(rt.alloc(), 40).expect(&rt, "memory");
+    let slot = store.place(10, 4, Depth::Eight).expect(&rt, "room");
     store.fill(slot, 0xEE);
     let deep = paint_block(&mut store, slot, top_from(1, 1), &TWO_LINES, Depth::Eight);
     same(&rt, deep, None);
@@ -82,14 +82,13 @@ fn top_field(rt: HostRuntime) -> Result<(), Fail> {
         store.packed_row(slot, 3),
         [0xEE, 0x07, 0xEE, 0xEE, 0xEE, 0xEE, 0xEE, 0xEE, 0xEE, 0xEE].as_slice(),
     );
-    Ok(())
 }
 
 /// Those of the bottom field go to the rows between; the second one lies below the region.
 #[test]
-fn bottom_field(rt: HostRuntime) -> Result<(), Fail> {
-    let mut store = Store::make(rt.alloc(), 40)?;
-    let slot = store.place(10, 4, Depth::Eight)?;
+fn bottom_field(rt: HostRuntime) {
+    let mut store = Store::make(rt.alloc(), 40).expect(&rt, "memory");
+    let slot = store.place(10, 4, Depth::Eight).expect(&rt, "room");
     store.fill(slot, 0xEE);
     let deep = paint_block(
         &mut store,
@@ -106,14 +105,13 @@ fn bottom_field(rt: HostRuntime) -> Result<(), Fail> {
         [0x05, 0x06, 0x33, 0x99, 0x77, 0xFF, 0x00, 0xEE, 0xEE, 0xEE].as_slice(),
     );
     same(&rt, store.packed_row(slot, 3), [0xEE; 10].as_slice());
-    Ok(())
 }
 
 /// A map table is in force from its place on, in the place of the one before.
 #[test]
-fn tables_one_after_another(rt: HostRuntime) -> Result<(), Fail> {
-    let mut store = Store::make(rt.alloc(), 7)?;
-    let slot = store.place(13, 1, Depth::Four)?;
+fn tables_one_after_another(rt: HostRuntime) {
+    let mut store = Store::make(rt.alloc(), 7).expect(&rt, "memory");
+    let slot = store.place(13, 1, Depth::Four).expect(&rt, "room");
     store.fill(slot, 5);
     let deep = paint_block(&mut store, slot, top_from(0, 0), &NEW_TABLES, Depth::Four);
     same(&rt, deep, None);
@@ -122,14 +120,13 @@ fn tables_one_after_another(rt: HostRuntime) -> Result<(), Fail> {
         store.packed_row(slot, 0),
         [0x78, 0xF0, 0xA2, 0xB1, 0xED, 0xCF, 0x50].as_slice(),
     );
-    Ok(())
 }
 
 /// The tables for 8 bits, each for strings of its depth.
 #[test]
-fn tables_of_both_depths(rt: HostRuntime) -> Result<(), Fail> {
-    let mut store = Store::make(rt.alloc(), 8)?;
-    let slot = store.place(8, 1, Depth::Eight)?;
+fn tables_of_both_depths(rt: HostRuntime) {
+    let mut store = Store::make(rt.alloc(), 8).expect(&rt, "memory");
+    let slot = store.place(8, 1, Depth::Eight).expect(&rt, "room");
     store.fill(slot, 0xEE);
     let deep = paint_block(&mut store, slot, top_from(1, 0), &WIDE_TABLES, Depth::Eight);
     same(&rt, deep, None);
@@ -138,14 +135,13 @@ fn tables_of_both_depths(rt: HostRuntime) -> Result<(), Fail> {
         store.packed_row(slot, 0),
         [0xEE, 0xA1, 0xA2, 0xA3, 0xA0, 0x13, 0x19, 0xEE].as_slice(),
     );
-    Ok(())
 }
 
 /// An object is seen through where the string has code 1, and not where the table gives it.
 #[test]
-fn seen_through(rt: HostRuntime) -> Result<(), Fail> {
-    let mut store = Store::make(rt.alloc(), 2)?;
-    let slot = store.place(4, 1, Depth::Four)?;
+fn seen_through(rt: HostRuntime) {
+    let mut store = Store::make(rt.alloc(), 2).expect(&rt, "memory");
+    let slot = store.place(4, 1, Depth::Four).expect(&rt, "room");
     store.fill(slot, 5);
     let place = FieldPlace {
         listing: Listing {
@@ -159,14 +155,13 @@ fn seen_through(rt: HostRuntime) -> Result<(), Fail> {
     let deep = paint_block(&mut store, slot, place, &MAPPED_TO_ONE, Depth::Four);
     same(&rt, deep, None);
     same(&rt, store.packed_row(slot, 0), [0x51, 0xF2].as_slice());
-    Ok(())
 }
 
 /// A string that runs over the edge, one that begins behind it, and a line below the region.
 #[test]
-fn clipped_lines(rt: HostRuntime) -> Result<(), Fail> {
-    let mut store = Store::make(rt.alloc(), 9)?;
-    let slot = store.place(3, 3, Depth::Eight)?;
+fn clipped_lines(rt: HostRuntime) {
+    let mut store = Store::make(rt.alloc(), 9).expect(&rt, "memory");
+    let slot = store.place(3, 3, Depth::Eight).expect(&rt, "room");
     store.fill(slot, 0xEE);
     let deep = paint_block(
         &mut store,
@@ -191,32 +186,30 @@ fn clipped_lines(rt: HostRuntime) -> Result<(), Fail> {
         store.packed_row(slot, 2),
         [0xEE, 0x08, 0xEE].as_slice(),
     );
-    Ok(())
 }
 
 /// Painting ends at a string that is deeper than the region, whose place is told.
 #[test]
-fn deep_strings(rt: HostRuntime) -> Result<(), Fail> {
-    let mut store = Store::make(rt.alloc(), 9)?;
-    let slot = store.place(3, 3, Depth::Four)?;
+fn deep_strings(rt: HostRuntime) {
+    let mut store = Store::make(rt.alloc(), 9).expect(&rt, "memory");
+    let slot = store.place(3, 3, Depth::Four).expect(&rt, "room");
     store.fill(slot, 5);
     let deep = paint_block(&mut store, slot, top_from(0, 0), &DEEP_STRING, Depth::Four);
     same(&rt, deep, Some(4));
     same(&rt, store.packed_row(slot, 0), [0x39, 0x50].as_slice());
     same(&rt, store.packed_row(slot, 1), [0x55, 0x50].as_slice());
     same(&rt, store.packed_row(slot, 2), [0x55, 0x50].as_slice());
-    let narrow = store.place(3, 1, Depth::Two)?;
+    let narrow = store.place(3, 1, Depth::Two).expect(&rt, "room");
     let deep = paint_block(&mut store, narrow, top_from(0, 0), &DEEP_STRING, Depth::Two);
     same(&rt, deep, Some(0));
     same(&rt, store.packed_row(narrow, 0), [0x00].as_slice());
-    Ok(())
 }
 
 /// Of bytes that are no block nothing behind the fault is painted, and no place is told.
 #[test]
-fn no_blocks(rt: HostRuntime) -> Result<(), Fail> {
-    let mut store = Store::make(rt.alloc(), 3)?;
-    let slot = store.place(3, 1, Depth::Eight)?;
+fn no_blocks(rt: HostRuntime) {
+    let mut store = Store::make(rt.alloc(), 3).expect(&rt, "memory");
+    let slot = store.place(3, 1, Depth::Eight).expect(&rt, "room");
     let unknown = [0x77, 0x12, 0x05, 0x00, 0x00];
     let cut = [0x21, 0xA0, 0xA1, 0xA2];
     let at = top_from(0, 0);
@@ -240,5 +233,4 @@ fn no_blocks(rt: HostRuntime) -> Result<(), Fail> {
         store.packed_row(slot, 0),
         [0x00, 0x00, 0x00].as_slice(),
     );
-    Ok(())
 }

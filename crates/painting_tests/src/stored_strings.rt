@@ -1,15 +1,15 @@
 use crate::painted_rows::{EIGHT_BIT_CODES, FOUR_BIT_CODES, TWO_BIT_CODES, brush};
 use crate::same::same;
 use pixel_store::Store;
-use std::test::Fail;
+use std::panic::Expect;
 use string_painting::{Brush, Painted};
 use sub_base::Depth;
 
 /// Five of seven pixels are in the region, and the row above stays.
 #[test]
-fn eight_bits_in_a_region_of_eight(rt: HostRuntime) -> Result<(), Fail> {
-    let mut store = Store::make(rt.alloc(), 12)?;
-    let slot = store.place(6, 2, Depth::Eight)?;
+fn eight_bits_in_a_region_of_eight(rt: HostRuntime) {
+    let mut store = Store::make(rt.alloc(), 12).expect(&rt, "memory");
+    let slot = store.place(6, 2, Depth::Eight).expect(&rt, "room");
     store.fill(slot, 0xEE);
     let told = store.paint_string(
         slot,
@@ -26,14 +26,13 @@ fn eight_bits_in_a_region_of_eight(rt: HostRuntime) -> Result<(), Fail> {
         store.packed_row(slot, 1),
         [0xEE, 0x07, 0x09, 0x09, 0x09, 0x00].as_slice(),
     );
-    Ok(())
 }
 
 /// Three of 13 pixels are in the region. The bits behind them stay 0, as does the row below.
 #[test]
-fn four_bits_in_a_region_of_four(rt: HostRuntime) -> Result<(), Fail> {
-    let mut store = Store::make(rt.alloc(), 6)?;
-    let slot = store.place(5, 2, Depth::Four)?;
+fn four_bits_in_a_region_of_four(rt: HostRuntime) {
+    let mut store = Store::make(rt.alloc(), 6).expect(&rt, "memory");
+    let slot = store.place(5, 2, Depth::Four).expect(&rt, "room");
     store.fill(slot, 14);
     let told = store.paint_string(
         slot,
@@ -54,14 +53,13 @@ fn four_bits_in_a_region_of_four(rt: HostRuntime) -> Result<(), Fail> {
         store.packed_row(slot, 1),
         [0xEE, 0xEE, 0xE0].as_slice(),
     );
-    Ok(())
 }
 
 /// Code 2 becomes 3 by the map table, and the code 1 is seen through.
 #[test]
-fn two_bits_in_a_region_of_four(rt: HostRuntime) -> Result<(), Fail> {
-    let mut store = Store::make(rt.alloc(), 6)?;
-    let slot = store.place(5, 2, Depth::Four)?;
+fn two_bits_in_a_region_of_four(rt: HostRuntime) {
+    let mut store = Store::make(rt.alloc(), 6).expect(&rt, "memory");
+    let slot = store.place(5, 2, Depth::Four).expect(&rt, "room");
     store.fill(slot, 14);
     let seen = Brush {
         string: Depth::Two,
@@ -80,15 +78,14 @@ fn two_bits_in_a_region_of_four(rt: HostRuntime) -> Result<(), Fail> {
         store.packed_row(slot, 1),
         [0xE3, 0xEE, 0xE0].as_slice(),
     );
-    Ok(())
 }
 
 /// A string of which three pixels are in the region, and one behind the last row, of which as much
 /// is told.
 #[test]
-fn two_bits_in_a_region_of_two(rt: HostRuntime) -> Result<(), Fail> {
-    let mut store = Store::make(rt.alloc(), 4)?;
-    let slot = store.place(6, 2, Depth::Two)?;
+fn two_bits_in_a_region_of_two(rt: HostRuntime) {
+    let mut store = Store::make(rt.alloc(), 4).expect(&rt, "memory");
+    let slot = store.place(6, 2, Depth::Two).expect(&rt, "room");
     store.fill(slot, 3);
     let two = brush(Depth::Two, Depth::Two);
     let told = store.paint_string(slot, 3, 0, &TWO_BIT_CODES, two, &[]);
@@ -97,5 +94,4 @@ fn two_bits_in_a_region_of_two(rt: HostRuntime) -> Result<(), Fail> {
     same(&rt, behind, told);
     same(&rt, store.packed_row(slot, 0), [0xFE, 0x50].as_slice());
     same(&rt, store.packed_row(slot, 1), [0xFF, 0xF0].as_slice());
-    Ok(())
 }

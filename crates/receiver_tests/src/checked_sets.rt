@@ -6,8 +6,9 @@ use decoder_model::Pages;
 use packet_source::{PacketSource, StreamEnd};
 use packet_walk::{WalkEnd, walk_packets};
 use std::alloc::Global;
-use std::test::Fail;
-use sub_base::{MemSink, MemSource, Profile, ProfileName};
+use std::panic::Expect;
+use std::process::Abort;
+use sub_base::{MemSink, MemSource, NoMemory, Profile, ProfileName};
 
 /// The second packet is lost. The sets have 64, 31, 23 and again 64 bytes, and a slot 705 ticks;
 /// the third set has no page, and the last one an earlier time than the others.
@@ -32,7 +33,7 @@ fn null_packet() -> [u8; 188] {
 }
 
 /// The packets, one after the other.
-fn joined(alloc: Global, packets: &[[u8; 188]]) -> Result<Vec<u8>, Fail> {
+fn joined(alloc: Global, packets: &[[u8; 188]]) -> Result<Vec<u8>, NoMemory> {
     let mut bytes = Vec::new(alloc);
     for packet in packets {
         bytes.extend_from_slice(packet)?;
@@ -41,25 +42,30 @@ fn joined(alloc: Global, packets: &[[u8; 188]]) -> Result<Vec<u8>, Fail> {
 }
 
 /// What is told of the packets to the end of the stream, of page 1 out of PID 256 from tick 0 on.
-fn told_of(alloc: Global, packets: &[[u8; 188]]) -> Result<MemSink, Fail> {
-    let bytes = joined(alloc, packets)?;
+fn told_of<R: Abort>(rt: &R, alloc: Global, packets: &[[u8; 188]]) -> MemSink {
+    let bytes = joined(alloc, packets).expect(rt, "memory");
     let mut stream = MemSource::make(alloc, bytes, 100_000, Vec::new(alloc));
     let mut out = MemSink::make(alloc, 100_000, Vec::new(alloc));
-    let mut check = Check::make(alloc, &Profile::of(ProfileName::Sd), 0, 256, Pages::only(1))?;
-    let mut buffer = TextBuffer::make(alloc)?;
-    let mut source = PacketSource::make(alloc)?;
+    let mut check = Check::make(
+        alloc,
+        &Profile::of(ProfileName::Sd),
+        0,
+        256,
+        Pages::only(1),
+    ).expect(rt, "memory");
+    let mut buffer = TextBuffer::make(alloc).expect(rt, "memory");
+    let mut source = PacketSource::make(alloc).expect(rt, "memory");
     let end = walk_packets(&mut stream, &mut out, &mut buffer, &mut check, &mut source);
-    if let WalkEnd::Stream(StreamEnd::Whole { .. }) = end {
-        check.finish(&mut out, &mut buffer);
-        flush(&mut out, &mut buffer);
-        Ok(out)
-    } else {
-        Err(Fail::from("the stream is not read whole"))
-    }
+    let WalkEnd::Stream(StreamEnd::Whole { .. }) = end else {
+        rt.panic("the stream is not read whole")
+    };
+    check.finish(&mut out, &mut buffer);
+    flush(&mut out, &mut buffer);
+    out
 }
 
 #[test]
-fn what_becomes_of_sets(rt: HostRuntime) -> Result<(), Fail> {
+fn what_becomes_of_sets(rt: HostRuntime) {
     let packets = [
         packet_of(0, 90_000, &FILLED),
         packet_of(2, 180_000, &NORMAL),
@@ -68,14 +74,13 @@ fn what_becomes_of_sets(rt: HostRuntime) -> Result<(), Fail> {
     ];
     same(
         &rt,
-        told_of(rt.alloc(), &packets)?.written(),
+        told_of(&rt, rt.alloc(), &packets).written(),
         ALL_ENDS.as_bytes(),
     );
-    Ok(())
 }
 
 #[test]
-fn set_stands_before_bytes_of_another_time(rt: HostRuntime) -> Result<(), Fail> {
+fn set_stands_before_bytes_of_another_time(rt: HostRuntime) {
     let packets = [
         packet_of(0, 90_000, &OPEN),
         null_packet(),
@@ -83,19 +88,17 @@ fn set_stands_before_bytes_of_another_time(rt: HostRuntime) -> Result<(), Fail> 
     ];
     same(
         &rt,
-        told_of(rt.alloc(), &packets)?.written(),
+        told_of(&rt, rt.alloc(), &packets).written(),
         BEFORE.as_bytes(),
     );
-    Ok(())
 }
 
 #[test]
-fn set_is_late(rt: HostRuntime) -> Result<(), Fail> {
+fn set_is_late(rt: HostRuntime) {
     let packets = [packet_of(0, 64, &FILLED), packet_of(1, 90_000, &OPEN)];
     same(
         &rt,
-        told_of(rt.alloc(), &packets)?.written(),
+        told_of(&rt, rt.alloc(), &packets).written(),
         AT_END.as_bytes(),
     );
-    Ok(())
 }

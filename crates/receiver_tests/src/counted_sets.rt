@@ -1,7 +1,7 @@
 use crate::same::same;
 use decoder_model::{Pages, SetEnd};
 use set_receiver::SetReceiver;
-use std::test::Fail;
+use std::panic::Expect;
 use sub_base::{Profile, ProfileName, SetLoad};
 
 /// A page without regions that begins an epoch, and the end of its set.
@@ -38,9 +38,11 @@ fn end_with(receiver: &mut SetReceiver, packet: &[u8; 188]) -> Option<SetEnd> {
 /// A set is shown, and has its segments and its load; one at the same time is not later; and
 /// nothing is left.
 #[test]
-fn what_becomes_of_sets(rt: HostRuntime) -> Result<(), Fail> {
+fn what_becomes_of_sets(rt: HostRuntime) {
     let profile = Profile::of(ProfileName::Sd);
-    let mut receiver = SetReceiver::make(rt.alloc(), &profile, 256, Pages::only(1), 0)?;
+    let mut receiver = SetReceiver::make(rt.alloc(), &profile, 256, Pages::only(1), 0).expect(
+        &rt, "memory",
+    );
     let load = SetLoad {
         pts: 90_000,
         size: 31,
@@ -58,5 +60,4 @@ fn what_becomes_of_sets(rt: HostRuntime) -> Result<(), Fail> {
     same(&rt, receiver.ready_at(), None);
     assert!(rt; receiver.ready_set().is_none());
     same(&rt, receiver.core().free_nodes(), profile.nodes);
-    Ok(())
 }

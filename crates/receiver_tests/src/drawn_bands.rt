@@ -4,10 +4,11 @@ use crate::same::same;
 use band_draw::draw;
 use page_core::{Core, SetEnd};
 use std::alloc::Global;
+use std::panic::Expect;
+use std::process::Abort;
 use std::sync::atomic::{AtomicBool, AtomicU32, Ordering};
-use std::test::Fail;
 use std::thread::Threads;
-use sub_base::{BandGate, CLEAR, Colour, NoGate, Profile, ProfileName};
+use sub_base::{BandGate, CLEAR, Colour, NoGate, NoMemory, Profile, ProfileName};
 
 /// A display of four columns and five rows, of which rows 1 to 3 are filled with code 1 of 8 bits.
 #[rattlefmt::skip]
@@ -27,34 +28,33 @@ const RED: Colour = Colour {
 };
 
 /// The core that shows the display of five rows.
-fn core_with_five_rows(alloc: Global) -> Result<Core, Fail>
-    ensures { IfOk result (λ core. core.known ≡ true) }
+fn core_with_five_rows<R: Abort>(rt: &R, alloc: Global) -> Core
+    ensures { result.known ≡ true }
 {
-    let mut core = Core::make(alloc, &Profile::of(ProfileName::Sd), 1, 0)?;
+    let mut core = Core::make(alloc, &Profile::of(ProfileName::Sd), 1, 0).expect(rt, "memory");
     match core.take_set(90_000, &SET) {
-        SetEnd::Shown => Ok(core),
-        _ => Err(Fail::from("the set is not shown")),
+        SetEnd::Shown => core,
+        _ => rt.panic("the set is not shown"),
     }
 }
 
 /// Draws into twenty places, which the display must have.
-fn draw_twenty<R: Threads + Sync, G: BandGate + Sync>(
+fn draw_twenty<R: Threads + Sync + Abort, G: BandGate + Sync>(
     rt: &R,
     core: &Core,
     plane: &mut [Colour; 20],
     bands: u32,
     gate: &G,
-) -> Result<(), Fail>
+)
     requires known { core.now.known ≡ true }
     requires some { 1 ≤ bands }
     requires few { bands ≤ 64 }
 {
     let scene = core.scene();
     if u64::from(scene.width()) * u64::from(scene.height()) != 20 {
-        return Err(Fail::from("the display has not twenty places"));
+        rt.panic("the display has not twenty places")
     }
     draw(rt, &scene, plane, bands, gate);
-    Ok(())
 }
 
 /// Bands 0 and 1 raise their flags, and each looks for the other's.
@@ -91,17 +91,16 @@ impl BandGate for Meeting {
 
 /// Two bands are drawn at the same time: each sees the other's flag.
 #[test]
-fn two_bands_meet(rt: HostRuntime) -> Result<(), Fail> {
-    let core = core_with_five_rows(rt.alloc())?;
+fn two_bands_meet(rt: HostRuntime) {
+    let core = core_with_five_rows(&rt, rt.alloc());
     let gate = Meeting {
         first: AtomicBool::new(false),
         second: AtomicBool::new(false),
         met: AtomicU32::new(0),
     };
     let mut plane = [CLEAR; 20];
-    draw_twenty(&rt, &core, &mut plane, 2, &gate)?;
+    draw_twenty(&rt, &core, &mut plane, 2, &gate);
     same(&rt, gate.met.load(Ordering::SeqCst), 2);
-    Ok(())
 }
 
 /// How often each band was entered, four bits for each.
@@ -119,27 +118,25 @@ impl BandGate for Entries {
 
 /// Sixty-four bands over five rows are five: each is entered once.
 #[test]
-fn bands_without_rows_are_left_out(rt: HostRuntime) -> Result<(), Fail> {
-    let core = core_with_five_rows(rt.alloc())?;
+fn bands_without_rows_are_left_out(rt: HostRuntime) {
+    let core = core_with_five_rows(&rt, rt.alloc());
     let gate = Entries {
         count: AtomicU32::new(0),
     };
     let mut plane = [CLEAR; 20];
-    draw_twenty(&rt, &core, &mut plane, 64, &gate)?;
+    draw_twenty(&rt, &core, &mut plane, 64, &gate);
     same(&rt, gate.count.load(Ordering::SeqCst), 0x1_1111);
-    Ok(())
 }
 
 /// The picture is the same in any number of bands.
 #[test]
-fn one_picture_in_any_bands(rt: HostRuntime) -> Result<(), Fail> {
-    let core = core_with_five_rows(rt.alloc())?;
+fn one_picture_in_any_bands(rt: HostRuntime) {
+    let core = core_with_five_rows(&rt, rt.alloc());
     for bands in [1, 2, 3, 5, 7, 64] {
         let mut plane = [RED; 20];
-        draw_twenty(&rt, &core, &mut plane, bands, &NoGate)?;
+        draw_twenty(&rt, &core, &mut plane, bands, &NoGate);
         same(&rt, &plane[..4], [CLEAR; 4].as_slice());
         same(&rt, &plane[4..16], [RED; 12].as_slice());
         same(&rt, &plane[16..], [CLEAR; 4].as_slice());
     }
-    Ok(())
 }

@@ -9,11 +9,11 @@ use crate::trial::{Seen, Trial};
 use page_core::SetEnd;
 use pes_packets::write_unit;
 use std::alloc::Global;
+use std::panic::Expect;
 use std::process::Abort;
-use std::test::Fail;
 use std::thread::Threads;
 use stream_syntax::{Event, PAYLOAD_LENGTH};
-use sub_base::{CLEAR, Colour, UNIT_ROOM};
+use sub_base::{CLEAR, Colour, NoMemory, UNIT_ROOM};
 use ts_packets::Packetiser;
 
 /// A display of four columns and two rows.
@@ -94,7 +94,7 @@ fn rest_of(cue: u8) -> [u8; 62] {
 }
 
 /// The segments of a set.
-fn segments_of(alloc: Global, stream: Stream, set: u8) -> Result<Vec<u8>, Fail> {
+fn segments_of(alloc: Global, stream: Stream, set: u8) -> Result<Vec<u8>, NoMemory> {
     let mut segments = Vec::new(alloc);
     if stream.has_whole_page(set) {
         segments.extend_from_slice(&DISPLAY)?;
@@ -179,15 +179,13 @@ fn colour_of(cue: u8) -> Colour {
 }
 
 /// The PES packet with these segments.
-fn unit_of(alloc: Global, time: u64, segments: &[u8]) -> Result<Vec<u8>, Fail>
+fn unit_of<R: Abort>(rt: &R, alloc: Global, time: u64, segments: &[u8]) -> Vec<u8>
     requires { time < 2 ^ 33 }
 {
     let mut unit = Vec::new(alloc);
-    if segments.len() as u64 > UNIT_ROOM {
-        return Err(Fail::from("a unit is too long"));
-    }
-    write_unit(time, segments, &mut unit)?;
-    Ok(unit)
+    assert!(rt; segments.len() as u64 <= UNIT_ROOM);
+    write_unit(time, segments, &mut unit).expect(rt, "memory");
+    unit
 }
 
 /// A sender of streams with losses, and one receiver of all of them.
@@ -200,7 +198,7 @@ struct Link {
 }
 
 impl Link {
-    fn make(alloc: Global) -> Result<Link, Fail> {
+    fn make(alloc: Global) -> Result<Link, NoMemory> {
         Ok(Link {
             packetiser: Packetiser::make(256),
             trial: Trial::new(alloc)?,
@@ -209,34 +207,31 @@ impl Link {
     }
 
     /// The PES packet of the next set, a second behind the last one.
-    fn unit(&mut self, alloc: Global, segments: &[u8]) -> Result<Vec<u8>, Fail> {
+    fn unit<R: Abort>(&mut self, rt: &R, alloc: Global, segments: &[u8]) -> Vec<u8> {
         self.time = self.time.wrapping_add(90_000) % 8_589_934_592;
-        unit_of(alloc, self.time, segments)
+        unit_of(rt, alloc, self.time, segments)
     }
 
     /// The next packet, with so much of a unit from a place on as it has room for.
-    fn packet(&mut self, unit: &[u8], first: usize) -> Result<[u8; 188], Fail> {
+    fn packet<R: Abort>(&mut self, rt: &R, unit: &[u8], first: usize) -> [u8; 188] {
         let rest = unit.get(first..).unwrap_or(&[]);
         let piece = rest.get(..PAYLOAD_LENGTH).unwrap_or(rest);
-        if piece.is_empty() || piece.len() > PAYLOAD_LENGTH {
-            return Err(Fail::from("a unit of fewer packets"));
-        }
+        assert!(rt; !piece.is_empty() && piece.len() <= PAYLOAD_LENGTH);
         let mut packet = [0; 188];
         self.packetiser.packet(piece, first == 0, &mut packet);
-        Ok(packet)
+        packet
     }
 
     /// Sends a page that begins an epoch, in one packet; it is shown, whatever was before it.
-    fn begin<R: Threads + Sync + Abort>(&mut self, rt: &R, alloc: Global) -> Result<(), Fail> {
-        let unit = self.unit(alloc, &FILLED)?;
-        let packet = self.packet(&unit, 0)?;
+    fn begin<R: Threads + Sync + Abort>(&mut self, rt: &R, alloc: Global) {
+        let unit = self.unit(rt, alloc, &FILLED);
+        let packet = self.packet(rt, &unit, 0);
         let _ = self.trial.feed(&packet);
         same(
             rt,
             self.trial.take_timed(rt),
             Some((self.time, SetEnd::Shown)),
         );
-        Ok(())
     }
 
     /// Feeds a packet: it is behind a gap exactly where it is the first behind the loss. Where a
@@ -248,7 +243,7 @@ impl Link {
         loss: Loss,
         number: u32,
         ends: Option<u8>,
-    ) -> Result<(), Fail> {
+    ) {
         let event = self.trial.feed(packet);
         let is_gap = matches!(event, Some(Ok(Event::Gap { .. })));
         assert_eq!(rt; is_gap, number == loss.behind, "{loss:?}, packet {number}");
@@ -266,30 +261,23 @@ impl Link {
                 assert_eq!(rt; found, seen, "{loss:?}, packet {number}");
             }
         }
-        Ok(())
     }
 
     /// Sends a set, the last of whose packets has that number.
-    fn send_set<R: Threads + Sync + Abort>(
-        &mut self,
-        rt: &R,
-        alloc: Global,
-        loss: Loss,
-        set: u8,
-    ) -> Result<(), Fail> {
-        let segments = segments_of(alloc, loss.stream, set)?;
-        let unit = self.unit(alloc, &segments)?;
+    fn send_set<R: Threads + Sync + Abort>(&mut self, rt: &R, alloc: Global, loss: Loss, set: u8) {
+        let segments = segments_of(alloc, loss.stream, set).expect(rt, "memory");
+        let unit = self.unit(rt, alloc, &segments);
         let count = loss.stream.packets();
         let mut is_whole = true;
         for place in 0..count {
-            let packet = self.packet(&unit, place as usize * PAYLOAD_LENGTH)?;
+            let packet = self.packet(rt, &unit, place as usize * PAYLOAD_LENGTH);
             let number = u32::from(set).saturating_mul(count).saturating_add(place);
             if loss.has(number) {
                 is_whole = false;
             } else {
                 let is_last = place + 1 == count;
                 let ends = if is_last && is_whole { Some(set) } else { None };
-                self.feed(rt, &packet, loss, number, ends)?;
+                self.feed(rt, &packet, loss, number, ends);
                 let ended = if is_last {
                     Some(set)
                 } else {
@@ -303,19 +291,13 @@ impl Link {
                 );
             }
         }
-        Ok(())
     }
 
     /// Sends all sets of a stream but the lost packets.
-    fn send<R: Threads + Sync + Abort>(
-        &mut self,
-        rt: &R,
-        alloc: Global,
-        loss: Loss,
-    ) -> Result<(), Fail> {
-        self.begin(rt, alloc)?;
+    fn send<R: Threads + Sync + Abort>(&mut self, rt: &R, alloc: Global, loss: Loss) {
+        self.begin(rt, alloc);
         for set in 0..loss.stream.cues {
-            self.send_set(rt, alloc, loss, set)?;
+            self.send_set(rt, alloc, loss, set);
         }
         self.send_set(rt, alloc, loss, loss.stream.cues)
     }
@@ -324,9 +306,9 @@ impl Link {
 /// Seventeen cues, of one packet each, with a whole page at each fifth: one to fourteen packets in
 /// a row are lost, at each place.
 #[test]
-fn sets_are_lost(rt: HostRuntime) -> Result<(), Fail> {
+fn sets_are_lost(rt: HostRuntime) {
     let alloc = rt.alloc();
-    let mut link = Link::make(alloc)?;
+    let mut link = Link::make(alloc).expect(&rt, "memory");
     let stream = Stream {
         cues: 17,
         whole: 5,
@@ -343,18 +325,17 @@ fn sets_are_lost(rt: HostRuntime) -> Result<(), Fail> {
                     first,
                     behind,
                 },
-            )?;
+            );
         }
     }
-    Ok(())
 }
 
 /// Seven cues, of three packets each, with a whole page at each third: the same, from each place in
 /// the first four sets on.
 #[test]
-fn parts_of_sets_are_lost(rt: HostRuntime) -> Result<(), Fail> {
+fn parts_of_sets_are_lost(rt: HostRuntime) {
     let alloc = rt.alloc();
-    let mut link = Link::make(alloc)?;
+    let mut link = Link::make(alloc).expect(&rt, "memory");
     let stream = Stream {
         cues: 7,
         whole: 3,
@@ -371,8 +352,7 @@ fn parts_of_sets_are_lost(rt: HostRuntime) -> Result<(), Fail> {
                     first,
                     behind,
                 },
-            )?;
+            );
         }
     }
-    Ok(())
 }

@@ -3,10 +3,9 @@ use decoder_model::Pages;
 use page_core::SetEnd;
 use receiver::{Arrival, Receiver, View};
 use std::alloc::Global;
-use std::test::Fail;
 use std::thread::Threads;
 use stream_syntax::{Event, PacketFault};
-use sub_base::{Colour, NoGate, Profile, ProfileName, SetLoad};
+use sub_base::{Colour, NoGate, NoMemory, Profile, ProfileName, SetLoad};
 
 /// What is seen at a tick.
 #[derive(Clone, Copy, Debug, PartialEq, Eq)]
@@ -27,13 +26,13 @@ pub(crate) struct Trial {
 }
 
 impl Trial {
-    pub(crate) fn new(alloc: Global) -> Result<Trial, Fail> {
+    pub(crate) fn new(alloc: Global) -> Result<Trial, NoMemory> {
         let sd = Profile::of(ProfileName::Sd);
         Ok(Trial::of(Receiver::make(alloc, &sd, 256, 1, 0)?))
     }
 
     /// The same with the ancillary page 2.
-    pub(crate) fn with_ancillary_page(alloc: Global) -> Result<Trial, Fail> {
+    pub(crate) fn with_ancillary_page(alloc: Global) -> Result<Trial, NoMemory> {
         let sd = Profile::of(ProfileName::Sd);
         let pages = Pages {
             composition: 1,

@@ -5,8 +5,8 @@ use crate::same::same;
 use samples::streams::set_packet;
 use samples::words_of;
 use std::alloc::Global;
+use std::panic::Expect;
 use std::process::Abort;
-use std::test::Fail;
 use std::thread::Threads;
 use stream_report::{faults_top, levels_top, pictures_top};
 use sub_base::{NoGate, ToolStatus};
@@ -59,17 +59,15 @@ fn two_sets(service: &Service) -> [[u8; 188]; 2] {
 }
 
 /// The display is clear from each set on.
-fn pictures_are_told<R: Threads + Sync + Abort>(
-    rt: &R,
-    alloc: Global,
-    service: &Service,
-) -> Result<(), Fail> {
+fn pictures_are_told<R: Threads + Sync + Abort>(rt: &R, alloc: Global, service: &Service) {
     let Service { profile, pid, page } = service;
-    let line = format!(in alloc; "pictures {profile} {pid} {page} 2 in.ts out.txt")?;
-    let words = words_of(alloc, line.as_str())?;
-    let mut stream = stream_of(alloc, &two_sets(service), &[], 100, 0)?;
-    let mut out = sink_of(alloc, 0)?;
-    let mut notes = sink_of(alloc, 0)?;
+    let line = format!(in alloc; "pictures {profile} {pid} {page} 2 in.ts out.txt").expect(
+        rt, "memory",
+    );
+    let words = words_of(alloc, line.as_str()).expect(rt, "memory");
+    let mut stream = stream_of(alloc, &two_sets(service), &[], 100, 0).expect(rt, "memory");
+    let mut out = sink_of(alloc, 0).expect(rt, "memory");
+    let mut notes = sink_of(alloc, 0).expect(rt, "memory");
     let told = pictures_top(
         rt,
         alloc,
@@ -82,45 +80,45 @@ fn pictures_are_told<R: Threads + Sync + Abort>(
     same(rt, told, ToolStatus::Done);
     let text = "picture 90000 clear\npicture 180000 clear\n";
     same(rt, out.written(), text.as_bytes());
-    Ok(())
 }
 
 /// Both sets are shown.
-fn faults_are_told<R: Abort>(rt: &R, alloc: Global, service: &Service) -> Result<(), Fail> {
+fn faults_are_told<R: Abort>(rt: &R, alloc: Global, service: &Service) {
     let Service { profile, pid, page } = service;
-    let line = format!(in alloc; "faults {profile} {pid} {page} in.ts out.txt")?;
-    let words = words_of(alloc, line.as_str())?;
-    let mut stream = stream_of(alloc, &two_sets(service), &[], 100, 0)?;
-    let mut out = sink_of(alloc, 0)?;
-    let mut notes = sink_of(alloc, 0)?;
+    let line = format!(in alloc; "faults {profile} {pid} {page} in.ts out.txt").expect(
+        rt, "memory",
+    );
+    let words = words_of(alloc, line.as_str()).expect(rt, "memory");
+    let mut stream = stream_of(alloc, &two_sets(service), &[], 100, 0).expect(rt, "memory");
+    let mut out = sink_of(alloc, 0).expect(rt, "memory");
+    let mut notes = sink_of(alloc, 0).expect(rt, "memory");
     let told = faults_top(alloc, &words, &mut stream, &mut out, &mut notes);
     same(rt, told, ToolStatus::Done);
     let text = "sets 2 shown 2 waiting 0 broken 0 notlater 0 lost 0\n";
     same(rt, out.written(), text.as_bytes());
-    Ok(())
 }
 
 /// At 90 ticks a packet the second set comes when the first is done, and waits for its time.
-fn levels_are_told<R: Abort>(rt: &R, alloc: Global, service: &Service) -> Result<(), Fail> {
+fn levels_are_told<R: Abort>(rt: &R, alloc: Global, service: &Service) {
     let Service { profile, pid, page } = service;
-    let line = format!(in alloc; "levels {profile} {pid} {page} 1504000 in.ts out.txt")?;
-    let words = words_of(alloc, line.as_str())?;
-    let mut stream = stream_of(alloc, &two_sets(service), &[], 100, 0)?;
-    let mut out = sink_of(alloc, 0)?;
-    let mut notes = sink_of(alloc, 0)?;
+    let line = format!(in alloc; "levels {profile} {pid} {page} 1504000 in.ts out.txt").expect(
+        rt, "memory",
+    );
+    let words = words_of(alloc, line.as_str()).expect(rt, "memory");
+    let mut stream = stream_of(alloc, &two_sets(service), &[], 100, 0).expect(rt, "memory");
+    let mut out = sink_of(alloc, 0).expect(rt, "memory");
+    let mut notes = sink_of(alloc, 0).expect(rt, "memory");
     let told = levels_top(alloc, &words, &mut stream, &mut out, &mut notes);
     same(rt, told, ToolStatus::Done);
     let text = "set 90000 shown 31 31\nset 180000 shown 31 90031\npeak 31\nbreach none\n";
     same(rt, out.written(), text.as_bytes());
-    Ok(())
 }
 
 #[test]
-fn sets_of_any_service_are_told(rt: HostRuntime) -> Result<(), Fail> {
+fn sets_of_any_service_are_told(rt: HostRuntime) {
     for service in &SERVICES {
-        pictures_are_told(&rt, rt.alloc(), service)?;
-        faults_are_told(&rt, rt.alloc(), service)?;
-        levels_are_told(&rt, rt.alloc(), service)?;
+        pictures_are_told(&rt, rt.alloc(), service);
+        faults_are_told(&rt, rt.alloc(), service);
+        levels_are_told(&rt, rt.alloc(), service);
     }
-    Ok(())
 }

@@ -3,8 +3,7 @@
 ghost use Rattle.std.specs.Prelude.{◌≤◌};
 
 use std::alloc::Global;
-use std::test::Fail;
-use sub_base::{MemSink, MemSource};
+use sub_base::{MemSink, MemSource, NoMemory};
 
 /// A source of these packets and of some bytes behind them, which gives at most `most` bytes a read
 /// and fails at the read of that number; 0 for none.
@@ -14,7 +13,7 @@ pub(crate) fn stream_of(
     behind: &[u8],
     most: usize,
     bad_read: u64,
-) -> Result<MemSource, Fail>
+) -> Result<MemSource, NoMemory>
     requires { 1 ≤ most }
 {
     let mut bytes = Vec::new(alloc);
@@ -26,6 +25,6 @@ pub(crate) fn stream_of(
 }
 
 /// A sink that fails at the write of that number; 0 for none.
-pub(crate) fn sink_of(alloc: Global, bad_write: u64) -> Result<MemSink, Fail> {
+pub(crate) fn sink_of(alloc: Global, bad_write: u64) -> Result<MemSink, NoMemory> {
     Ok(MemSink::make(alloc, 1_000_000, vec![in alloc; bad_write]?))
 }

@@ -4,7 +4,7 @@ use crate::running::{sink_of, stream_of};
 use crate::same::same;
 use samples::streams::{packet_of, set_packet};
 use samples::words_of;
-use std::test::Fail;
+use std::panic::Expect;
 use stream_report::levels_top;
 use sub_base::ToolStatus;
 
@@ -61,7 +61,7 @@ struct Row {
 /// last at that. A set without regions is done as many ticks behind its last packet, or behind the
 /// time of the set before it, as it has bytes.
 #[test]
-fn levels_by_the_clock(rt: HostRuntime) -> Result<(), Fail> {
+fn levels_by_the_clock(rt: HostRuntime) {
     let alloc = rt.alloc();
     let rows = [
         // 100 ticks a packet: the sets arrive at 9100 and 9300.
@@ -126,13 +126,14 @@ fn levels_by_the_clock(rt: HostRuntime) -> Result<(), Fail> {
         let pat = packet_of(&PAT, &[]);
         let pmt = packet_of(&PMT, &[]);
         let packets = [pat, pmt, first, second, third, fourth, fifth];
-        let words = words_of(alloc, "levels sd 256 1 pcr stream.ts levels.txt")?;
-        let mut stream = stream_of(alloc, &packets, &[], 100, 0)?;
-        let mut out = sink_of(alloc, 0)?;
-        let mut notes = sink_of(alloc, 0)?;
+        let words = words_of(alloc, "levels sd 256 1 pcr stream.ts levels.txt").expect(
+            &rt, "memory",
+        );
+        let mut stream = stream_of(alloc, &packets, &[], 100, 0).expect(&rt, "memory");
+        let mut out = sink_of(alloc, 0).expect(&rt, "memory");
+        let mut notes = sink_of(alloc, 0).expect(&rt, "memory");
         let status = levels_top(alloc, &words, &mut stream, &mut out, &mut notes);
         same(&rt, status, ToolStatus::Done);
         same(&rt, out.written(), row.text.as_bytes());
     }
-    Ok(())
 }

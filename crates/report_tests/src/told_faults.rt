@@ -5,11 +5,11 @@ use crate::same::same;
 use samples::streams::set_packet;
 use samples::words_of;
 use std::alloc::Global;
+use std::panic::Expect;
 use std::process::Abort;
-use std::test::Fail;
 use stream_report::{ReportFault, faults_top};
 use stream_syntax::PacketFault;
-use sub_base::{MemSink, ToolStatus, Which};
+use sub_base::{MemSink, NoMemory, ToolStatus, Which};
 
 const FAULTS: &str = "faults sd 256 1 stream.ts faults.txt";
 
@@ -167,7 +167,7 @@ fn run(
     packets: &[[u8; 188]],
     more: &[u8],
     failing: [u64; 2],
-) -> Result<Outcome, Fail> {
+) -> Result<Outcome, NoMemory> {
     let [bad_read, bad_write] = failing;
     let words = words_of(alloc, text)?;
     let mut stream = stream_of(alloc, packets, more, 100, bad_read)?;
@@ -185,19 +185,18 @@ struct Row {
 }
 
 /// Carries out `faults` over the packets of each row.
-fn tell_rows(rt: &impl Abort, alloc: Global, rows: &[Row]) -> Result<(), Fail> {
+fn tell_rows(rt: &impl Abort, alloc: Global, rows: &[Row]) {
     for row in rows {
-        let told = run(alloc, FAULTS, &row.packets, &[], [0, 0])?;
+        let told = run(alloc, FAULTS, &row.packets, &[], [0, 0]).expect(rt, "memory");
         same(rt, told.status, ToolStatus::Done);
         same(rt, told.notes.written(), b"done\n".as_slice());
         same(rt, told.out.written(), row.text.as_bytes());
     }
-    Ok(())
 }
 
 /// What becomes of sets, by hand.
 #[test]
-fn ends_of_sets(rt: HostRuntime) -> Result<(), Fail> {
+fn ends_of_sets(rt: HostRuntime) {
     let alloc = rt.alloc();
     let rows = [
         // Nothing is told of sets that are shown.
@@ -255,7 +254,7 @@ fn ends_of_sets(rt: HostRuntime) -> Result<(), Fail> {
 
 /// Why sets are broken, with their numbers.
 #[test]
-fn broken_sets(rt: HostRuntime) -> Result<(), Fail> {
+fn broken_sets(rt: HostRuntime) {
     let alloc = rt.alloc();
     let rows = [
         Row {
@@ -299,7 +298,7 @@ fn broken_sets(rt: HostRuntime) -> Result<(), Fail> {
 
 /// Regions of shown sets that pass an edge of the display, or of its window.
 #[test]
-fn regions_outside(rt: HostRuntime) -> Result<(), Fail> {
+fn regions_outside(rt: HostRuntime) {
     let alloc = rt.alloc();
     let rows = [
         Row {
@@ -332,7 +331,7 @@ fn regions_outside(rt: HostRuntime) -> Result<(), Fail> {
 
 /// Definitions of shown sets that say something else under the version that they had in the epoch.
 #[test]
-fn changed_definitions(rt: HostRuntime) -> Result<(), Fail> {
+fn changed_definitions(rt: HostRuntime) {
     let alloc = rt.alloc();
     let none = "sets 2 shown 2 waiting 0 broken 0 notlater 0 lost 0\n";
     let rows = [
@@ -381,11 +380,11 @@ fn changed_definitions(rt: HostRuntime) -> Result<(), Fail> {
 
 /// A packet without the sync byte ends the telling, with what was told before.
 #[test]
-fn what_ends_the_telling(rt: HostRuntime) -> Result<(), Fail> {
+fn what_ends_the_telling(rt: HostRuntime) {
     let alloc = rt.alloc();
     let first = set_packet(0, 90_000, &NO_PAGE);
     let broken = "set 1 90000 broken NoPage\n";
-    let refused = run(alloc, FAULTS, &[first, [0; 188]], &[], [0, 0])?;
+    let refused = run(alloc, FAULTS, &[first, [0; 188]], &[], [0, 0]).expect(&rt, "memory");
     same(
         &rt,
         refused.status,
@@ -396,20 +395,19 @@ fn what_ends_the_telling(rt: HostRuntime) -> Result<(), Fail> {
     );
     same(&rt, refused.notes.written(), b"refused Stream\n".as_slice());
     same(&rt, refused.out.written(), broken.as_bytes());
-    let unread = run(alloc, FAULTS, &[first], &[], [2, 0])?;
+    let unread = run(alloc, FAULTS, &[first], &[], [2, 0]).expect(&rt, "memory");
     same(&rt, unread.status, ToolStatus::ReadFault(Which::First));
-    let unwritten = run(alloc, FAULTS, &[first], &[], [0, 1])?;
+    let unwritten = run(alloc, FAULTS, &[first], &[], [0, 1]).expect(&rt, "memory");
     same(&rt, unwritten.status, ToolStatus::WriteFault(Which::Out));
-    let none = run(alloc, FAULTS, &[], &[0x47; 9], [0, 0])?;
+    let none = run(alloc, FAULTS, &[], &[0x47; 9], [0, 0]).expect(&rt, "memory");
     same(&rt, none.status, ToolStatus::Done);
     let nothing = "sets 0 shown 0 waiting 0 broken 0 notlater 0 lost 0\n";
     same(&rt, none.out.written(), nothing.as_bytes());
-    Ok(())
 }
 
 /// Words that are no command.
 #[test]
-fn words_that_are_refused(rt: HostRuntime) -> Result<(), Fail> {
+fn words_that_are_refused(rt: HostRuntime) {
     let alloc = rt.alloc();
     for text in [
         "faults ld 256 1 stream.ts faults.txt",
@@ -420,9 +418,8 @@ fn words_that_are_refused(rt: HostRuntime) -> Result<(), Fail> {
         "fault sd 256 1 stream.ts faults.txt",
         "faults sd 256 1 -stream.ts faults.txt",
     ] {
-        let usage = run(alloc, text, &[], &[], [1, 1])?;
+        let usage = run(alloc, text, &[], &[], [1, 1]).expect(&rt, "memory");
         same(&rt, usage.status, ToolStatus::Usage);
         same(&rt, usage.notes.written(), b"usage\n".as_slice());
     }
-    Ok(())
 }

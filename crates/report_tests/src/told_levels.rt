@@ -5,10 +5,10 @@ use crate::same::same;
 use samples::streams::set_packet;
 use samples::words_of;
 use std::alloc::Global;
-use std::test::Fail;
+use std::panic::Expect;
 use stream_report::{ReportFault, levels_top};
 use stream_syntax::PacketFault;
-use sub_base::{MemSink, ToolStatus, Which};
+use sub_base::{MemSink, NoMemory, ToolStatus, Which};
 
 /// A page without regions that begins an epoch, never timed out. A PES packet of it has 31 bytes.
 const EMPTY: [u8; 14] = [
@@ -44,7 +44,7 @@ fn run(
     packets: &[[u8; 188]],
     more: &[u8],
     failing: [u64; 2],
-) -> Result<Outcome, Fail> {
+) -> Result<Outcome, NoMemory> {
     let [bad_read, bad_write] = failing;
     let words = words_of(alloc, text)?;
     let mut stream = stream_of(alloc, packets, more, 100, bad_read)?;
@@ -66,7 +66,7 @@ struct Row {
 /// is done as many ticks behind its last packet, or behind the time of the set before it, as it has
 /// bytes.
 #[test]
-fn levels_of_three_packets(rt: HostRuntime) -> Result<(), Fail> {
+fn levels_of_three_packets(rt: HostRuntime) {
     let alloc = rt.alloc();
     let rows = [
         // 90 ticks a packet: the first set is done before the second one comes, which waits.
@@ -146,22 +146,21 @@ fn levels_of_three_packets(rt: HostRuntime) -> Result<(), Fail> {
         },
     ];
     for row in &rows {
-        let told = run(alloc, row.words, &row.packets, &[], [0, 0])?;
+        let told = run(alloc, row.words, &row.packets, &[], [0, 0]).expect(&rt, "memory");
         same(&rt, told.status, ToolStatus::Done);
         same(&rt, told.notes.written(), b"done\n".as_slice());
         same(&rt, told.out.written(), row.text.as_bytes());
     }
-    Ok(())
 }
 
 const LEVELS: &str = "levels sd 256 1 1504000 stream.ts levels.txt";
 
 /// A packet without the sync byte ends the telling, without the levels.
 #[test]
-fn what_ends_the_telling(rt: HostRuntime) -> Result<(), Fail> {
+fn what_ends_the_telling(rt: HostRuntime) {
     let alloc = rt.alloc();
     let first = set_packet(0, 90_000, &EMPTY);
-    let refused = run(alloc, LEVELS, &[first, [0; 188]], &[], [0, 0])?;
+    let refused = run(alloc, LEVELS, &[first, [0; 188]], &[], [0, 0]).expect(&rt, "memory");
     same(
         &rt,
         refused.status,
@@ -176,21 +175,20 @@ fn what_ends_the_telling(rt: HostRuntime) -> Result<(), Fail> {
         refused.out.written(),
         b"set 90000 shown 31 31\n".as_slice(),
     );
-    let cut = run(alloc, LEVELS, &[first], &[0x47; 9], [0, 0])?;
+    let cut = run(alloc, LEVELS, &[first], &[0x47; 9], [0, 0]).expect(&rt, "memory");
     same(&rt, cut.status, ToolStatus::Done);
-    let unread = run(alloc, LEVELS, &[first], &[], [2, 0])?;
+    let unread = run(alloc, LEVELS, &[first], &[], [2, 0]).expect(&rt, "memory");
     same(&rt, unread.status, ToolStatus::ReadFault(Which::First));
-    let unwritten = run(alloc, LEVELS, &[first], &[], [0, 1])?;
+    let unwritten = run(alloc, LEVELS, &[first], &[], [0, 1]).expect(&rt, "memory");
     same(&rt, unwritten.status, ToolStatus::WriteFault(Which::Out));
-    let none = run(alloc, LEVELS, &[], &[], [0, 0])?;
+    let none = run(alloc, LEVELS, &[], &[], [0, 0]).expect(&rt, "memory");
     same(&rt, none.status, ToolStatus::Done);
     same(&rt, none.out.written(), b"peak 0\nbreach none\n".as_slice());
-    Ok(())
 }
 
 /// Words that are no command.
 #[test]
-fn words_that_are_refused(rt: HostRuntime) -> Result<(), Fail> {
+fn words_that_are_refused(rt: HostRuntime) {
     let alloc = rt.alloc();
     for text in [
         "levels sd 256 1 999 stream.ts levels.txt",
@@ -204,9 +202,8 @@ fn words_that_are_refused(rt: HostRuntime) -> Result<(), Fail> {
         "level sd 256 1 1504000 stream.ts levels.txt",
         "levels sd 256 1 1504000 -stream.ts levels.txt",
     ] {
-        let usage = run(alloc, text, &[], &[], [1, 1])?;
+        let usage = run(alloc, text, &[], &[], [1, 1]).expect(&rt, "memory");
         same(&rt, usage.status, ToolStatus::Usage);
         same(&rt, usage.notes.written(), b"usage\n".as_slice());
     }
-    Ok(())
 }

@@ -7,10 +7,10 @@ use crate::same::same;
 use samples::streams::set_packet;
 use samples::words_of;
 use std::alloc::Global;
-use std::test::Fail;
+use std::panic::Expect;
 use stream_report::{ReportFault, pids_inputs, pids_top};
 use stream_syntax::PacketFault;
-use sub_base::{MemSink, ToolStatus, Which};
+use sub_base::{MemSink, NoMemory, ToolStatus, Which};
 
 const PIDS: &str = "pids stream.ts pids.txt";
 
@@ -72,7 +72,7 @@ fn run(
     packets: &[[u8; 188]],
     more: &[u8],
     failing: [u64; 2],
-) -> Result<Outcome, Fail> {
+) -> Result<Outcome, NoMemory> {
     let [bad_read, bad_write] = failing;
     let words = words_of(alloc, text)?;
     let mut stream = stream_of(alloc, packets, more, 100, bad_read)?;
@@ -91,7 +91,7 @@ struct Row {
 
 /// Counts of PES packets, of compositions and of what stands alone, by hand.
 #[test]
-fn pages_of_each_pid(rt: HostRuntime) -> Result<(), Fail> {
+fn pages_of_each_pid(rt: HostRuntime) {
     let alloc = rt.alloc();
     let one = packet_of(0, 0, 90_000, &PAGE_ONE);
     let two = packet_of(0, 1, 180_000, &PAGE_TWO);
@@ -144,21 +144,20 @@ fn pages_of_each_pid(rt: HostRuntime) -> Result<(), Fail> {
         },
     ];
     for row in &rows {
-        let told = run(alloc, PIDS, &row.packets, &[], [0, 0])?;
+        let told = run(alloc, PIDS, &row.packets, &[], [0, 0]).expect(&rt, "memory");
         same(&rt, told.status, ToolStatus::Done);
         same(&rt, told.notes.written(), b"done\n".as_slice());
         same(&rt, told.out.written(), row.text.as_bytes());
     }
-    Ok(())
 }
 
 /// What was taken before a packet without the sync byte, or before a read that failed, is told.
 #[test]
-fn what_ends_the_telling(rt: HostRuntime) -> Result<(), Fail> {
+fn what_ends_the_telling(rt: HostRuntime) {
     let alloc = rt.alloc();
     let first = packet_of(0, 0, 90_000, &PAGE_ONE);
     let text = "pid 256 units 1 first 90000 last 90000\npage 1 composition 1 ancillary 0\n";
-    let refused = run(alloc, PIDS, &[first, [0; 188], first], &[], [0, 0])?;
+    let refused = run(alloc, PIDS, &[first, [0; 188], first], &[], [0, 0]).expect(&rt, "memory");
     same(
         &rt,
         refused.status,
@@ -170,18 +169,17 @@ fn what_ends_the_telling(rt: HostRuntime) -> Result<(), Fail> {
     same(&rt, refused.notes.written(), b"refused Stream\n".as_slice());
     same(&rt, refused.out.written(), text.as_bytes());
     // The second read has the end of the first packet.
-    let unread = run(alloc, PIDS, &[first], &[], [3, 0])?;
+    let unread = run(alloc, PIDS, &[first], &[], [3, 0]).expect(&rt, "memory");
     same(&rt, unread.status, ToolStatus::ReadFault(Which::First));
     same(&rt, unread.out.written(), text.as_bytes());
-    let unwritten = run(alloc, PIDS, &[first], &[], [0, 1])?;
+    let unwritten = run(alloc, PIDS, &[first], &[], [0, 1]).expect(&rt, "memory");
     same(&rt, unwritten.status, ToolStatus::WriteFault(Which::Out));
-    let cut = run(alloc, PIDS, &[first], &[0x47; 9], [0, 0])?;
+    let cut = run(alloc, PIDS, &[first], &[0x47; 9], [0, 0]).expect(&rt, "memory");
     same(&rt, cut.status, ToolStatus::Done);
     same(&rt, cut.out.written(), text.as_bytes());
-    let none = run(alloc, PIDS, &[], &[], [0, 0])?;
+    let none = run(alloc, PIDS, &[], &[], [0, 0]).expect(&rt, "memory");
     same(&rt, none.status, ToolStatus::Done);
     same(&rt, none.out.written().len(), 0);
-    Ok(())
 }
 
 /// A segment of page composition of a page.
@@ -191,14 +189,16 @@ fn composition_of(page: u8) -> [u8; 6] {
 
 /// Of 65 pages the lowest 64 are told, in whatever order they come, and that there are more.
 #[test]
-fn more_pages_than_are_told(rt: HostRuntime) -> Result<(), Fail> {
+fn more_pages_than_are_told(rt: HostRuntime) {
     let alloc = rt.alloc();
     let mut packets = Vec::new(alloc);
     // Pages 69 down to 5.
     for number in 0u8..65 {
-        packets.push(packet_of(0, number % 16, 1, &composition_of(69 - number)))?;
+        packets
+            .push(packet_of(0, number % 16, 1, &composition_of(69 - number)))
+            .expect(&rt, "memory");
     }
-    let told = run(alloc, PIDS, packets.as_slice(), &[], [0, 0])?;
+    let told = run(alloc, PIDS, packets.as_slice(), &[], [0, 0]).expect(&rt, "memory");
     same(&rt, told.status, ToolStatus::Done);
     let text = told.out.written();
     assert!(&rt;
@@ -211,19 +211,19 @@ fn more_pages_than_are_told(rt: HostRuntime) -> Result<(), Fail> {
         packets.as_slice().get(1..).unwrap_or(&[]),
         &[],
         [0, 0],
-    )?;
+    )
+    .expect(&rt, "memory");
     assert!(&rt;
         fewer
             .out
             .written()
             .ends_with(b"page 68 composition 1 ancillary 0\n")
     );
-    Ok(())
 }
 
 /// Words that are no command, and where the files stand.
 #[test]
-fn words_that_are_refused(rt: HostRuntime) -> Result<(), Fail> {
+fn words_that_are_refused(rt: HostRuntime) {
     let alloc = rt.alloc();
     for text in [
         "pids stream.ts",
@@ -231,13 +231,16 @@ fn words_that_are_refused(rt: HostRuntime) -> Result<(), Fail> {
         "pid stream.ts pids.txt",
         "pids -stream.ts pids.txt",
     ] {
-        let usage = run(alloc, text, &[], &[], [1, 1])?;
+        let usage = run(alloc, text, &[], &[], [1, 1]).expect(&rt, "memory");
         same(&rt, usage.status, ToolStatus::Usage);
         same(&rt, usage.notes.written(), b"usage\n".as_slice());
-        same(&rt, pids_inputs(&words_of(alloc, text)?).out, None);
+        same(
+            &rt,
+            pids_inputs(&words_of(alloc, text).expect(&rt, "memory")).out,
+            None,
+        );
     }
-    let places = pids_inputs(&words_of(alloc, PIDS)?);
+    let places = pids_inputs(&words_of(alloc, PIDS).expect(&rt, "memory"));
     same(&rt, places.first, Some(1));
     same(&rt, places.out, Some(2));
-    Ok(())
 }

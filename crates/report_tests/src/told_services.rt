@@ -8,10 +8,10 @@ use psi_tables::crc;
 use samples::streams::packet_of;
 use samples::words_of;
 use std::alloc::Global;
+use std::panic::Expect;
 use std::process::Abort;
-use std::test::Fail;
 use stream_report::pids_top;
-use sub_base::ToolStatus;
+use sub_base::{NoMemory, ToolStatus};
 
 /// The table ids of a PAT and of a PMT.
 const PAT: u8 = 0x00;
@@ -64,7 +64,7 @@ const OTHER_MAP: [u8; 19] = [
 ];
 
 /// A section of a table with that id and body, in force, with its CRC.
-fn section_of(alloc: Global, table: u8, number: u16, body: &[u8]) -> Result<Vec<u8>, Fail> {
+fn section_of(alloc: Global, table: u8, number: u16, body: &[u8]) -> Result<Vec<u8>, NoMemory> {
     let length = (body.len() % 4_000) as u16 + 9;
     let [high, low] = [(length / 256) as u8, (length % 256) as u8];
     let [above, below] = [(number / 256) as u8, (number % 256) as u8];
@@ -102,7 +102,7 @@ struct Tables {
 
 impl Tables {
     /// Sends a section on that PID in pieces of so many bytes, the first with that counter.
-    fn send(&mut self, pid: u8, counter: u8, section: &[u8], size: usize) -> Result<(), Fail>
+    fn send(&mut self, pid: u8, counter: u8, section: &[u8], size: usize) -> Result<(), NoMemory>
         requires { 1 ≤ size }
     {
         let mut payload = Vec::from_slice(*self.packets.allocator(), &[0])?;
@@ -120,48 +120,56 @@ impl Tables {
 }
 
 /// That `pids` tells this text of packets.
-fn is_told<R: Abort>(
-    rt: &R,
-    alloc: Global,
-    packets: &[[u8; 188]],
-    text: &[u8],
-) -> Result<(), Fail> {
-    let words = words_of(alloc, "pids stream.ts pids.txt")?;
-    let mut stream = stream_of(alloc, packets, &[], 1_000, 0)?;
-    let mut out = sink_of(alloc, 0)?;
-    let mut notes = sink_of(alloc, 0)?;
+fn is_told<R: Abort>(rt: &R, alloc: Global, packets: &[[u8; 188]], text: &[u8]) {
+    let words = words_of(alloc, "pids stream.ts pids.txt").expect(rt, "memory");
+    let mut stream = stream_of(alloc, packets, &[], 1_000, 0).expect(rt, "memory");
+    let mut out = sink_of(alloc, 0).expect(rt, "memory");
+    let mut notes = sink_of(alloc, 0).expect(rt, "memory");
     let status = pids_top(alloc, &words, &mut stream, &mut out, &mut notes);
     same(&rt, status, ToolStatus::Done);
     same(&rt, notes.written(), b"done\n".as_slice());
     same(&rt, out.written(), text);
-    Ok(())
 }
 
 /// The first PAT and the first PMTs behind it count, in order of PID, page, service and ancillary
 /// page.
 #[test]
-fn services_of_tables(rt: HostRuntime) -> Result<(), Fail> {
+fn services_of_tables(rt: HostRuntime) {
     let alloc = rt.alloc();
     let mut tables = Tables {
         packets: Vec::new(alloc),
     };
-    let other = section_of(alloc, PMT, 1, &OTHER_MAP)?;
-    let one = section_of(alloc, PMT, 1, &MAP_OF_ONE)?;
-    let two = section_of(alloc, PMT, 2, &MAP_OF_TWO)?;
-    let five = section_of(alloc, PMT, 5, &MAP_OF_FIVE)?;
+    let other = section_of(alloc, PMT, 1, &OTHER_MAP).expect(&rt, "memory");
+    let one = section_of(alloc, PMT, 1, &MAP_OF_ONE).expect(&rt, "memory");
+    let two = section_of(alloc, PMT, 2, &MAP_OF_TWO).expect(&rt, "memory");
+    let five = section_of(alloc, PMT, 5, &MAP_OF_FIVE).expect(&rt, "memory");
     // A PMT before the PAT is passed over.
-    tables.send(100, 7, &other, 184)?;
-    is_told(&rt, alloc, &tables.packets, b"")?;
-    tables.send(0, 0, &section_of(alloc, PAT, 1, &ENTRIES)?, 184)?;
+    tables.send(100, 7, &other, 184).expect(&rt, "memory");
+    is_told(&rt, alloc, &tables.packets, b"");
+    tables
+        .send(
+            0,
+            0,
+            &section_of(alloc, PAT, 1, &ENTRIES).expect(&rt, "memory"),
+            184,
+        )
+        .expect(&rt, "memory");
     // Services 1 and 2 on one PID, that of 1 over several packets; none on PID 101.
-    tables.send(101, 0, &other, 184)?;
-    tables.send(100, 8, &one, 30)?;
-    tables.send(100, 3, &two, 184)?;
+    tables.send(101, 0, &other, 184).expect(&rt, "memory");
+    tables.send(100, 8, &one, 30).expect(&rt, "memory");
+    tables.send(100, 3, &two, 184).expect(&rt, "memory");
     // Later tables change nothing, nor does a service that is not looked for on its PID.
-    tables.send(100, 4, &other, 184)?;
-    tables.send(0, 1, &section_of(alloc, PAT, 1, &LATER_ENTRIES)?, 184)?;
-    tables.send(102, 0, &other, 184)?;
-    tables.send(102, 1, &five, 184)?;
+    tables.send(100, 4, &other, 184).expect(&rt, "memory");
+    tables
+        .send(
+            0,
+            1,
+            &section_of(alloc, PAT, 1, &LATER_ENTRIES).expect(&rt, "memory"),
+            184,
+        )
+        .expect(&rt, "memory");
+    tables.send(102, 0, &other, 184).expect(&rt, "memory");
+    tables.send(102, 1, &five, 184).expect(&rt, "memory");
     is_told(
         &rt,
         alloc,
@@ -176,7 +184,7 @@ fn services_of_tables(rt: HostRuntime) -> Result<(), Fail> {
 
 /// The body of a PMT with 124 entries of subtitles on PID 256 and so many: deu, type 16, pages 1
 /// and 1.
-fn full_map(alloc: Global, pid: u8) -> Result<Vec<u8>, Fail> {
+fn full_map(alloc: Global, pid: u8) -> Result<Vec<u8>, NoMemory> {
     // One stream of private data with 1,000 bytes of descriptors, each of 31 entries.
     let head = [0xFF, 0xFF, 0xF0, 0x00, 0x06, 0xE1, pid, 0xF3, 0xE8];
     let mut body = Vec::from_slice(alloc, &head)?;
@@ -191,7 +199,7 @@ fn full_map(alloc: Global, pid: u8) -> Result<Vec<u8>, Fail> {
 
 /// Of more than 512 services the lowest 512 are told.
 #[test]
-fn lowest_services(rt: HostRuntime) -> Result<(), Fail> {
+fn lowest_services(rt: HostRuntime) {
     let alloc = rt.alloc();
     let mut entries = Vec::new(alloc);
     let mut tables = Tables {
@@ -199,23 +207,41 @@ fn lowest_services(rt: HostRuntime) -> Result<(), Fail> {
     };
     // Services 1 to 5 on PIDs 101 to 105.
     for number in 1u8..6 {
-        entries.extend_from_slice(&[0x00, number, 0xE0, 100 + number])?;
+        entries
+            .extend_from_slice(&[0x00, number, 0xE0, 100 + number])
+            .expect(&rt, "memory");
     }
-    tables.send(0, 0, &section_of(alloc, PAT, 1, &entries)?, 184)?;
+    tables
+        .send(
+            0,
+            0,
+            &section_of(alloc, PAT, 1, &entries).expect(&rt, "memory"),
+            184,
+        )
+        .expect(&rt, "memory");
     let mut text = Vec::new(alloc);
     for number in 1u8..6 {
-        let map = section_of(alloc, PMT, u16::from(number), &full_map(alloc, 4 + number)?)?;
-        tables.send(100 + number, 0, &map, 184)?;
+        let map = section_of(
+            alloc,
+            PMT,
+            u16::from(number),
+            &full_map(alloc, 4 + number).expect(&rt, "memory"),
+        )
+        .expect(&rt, "memory");
+        tables
+            .send(100 + number, 0, &map, 184)
+            .expect(&rt, "memory");
         // Four services have 124 entries each, and the fifth, of 124, sixteen more.
         let told = if number < 5 { 124 } else { 16 };
         for _ in 0..told {
-            text.extend_from_slice(b"service ")?;
-            text.push(b'0' + number)?;
-            text.extend_from_slice(b" pid 26")?;
-            text.push(b'0' + number)?;
-            text.extend_from_slice(b" deu type 16 page 1 ancillary 1\n")?;
+            text.extend_from_slice(b"service ").expect(&rt, "memory");
+            text.push(b'0' + number).expect(&rt, "memory");
+            text.extend_from_slice(b" pid 26").expect(&rt, "memory");
+            text.push(b'0' + number).expect(&rt, "memory");
+            text.extend_from_slice(b" deu type 16 page 1 ancillary 1\n")
+                .expect(&rt, "memory");
         }
     }
-    text.extend_from_slice(b"more\n")?;
+    text.extend_from_slice(b"more\n").expect(&rt, "memory");
     is_told(&rt, alloc, &tables.packets, &text)
 }

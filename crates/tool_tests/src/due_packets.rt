@@ -7,7 +7,6 @@ use live_plan::slots_by;
 use script_stream::ScriptStream;
 use std::alloc::Global;
 use std::process::Abort;
-use std::test::Fail;
 use sub_base::{MemSink, ProfileName};
 
 /// A picture from 450,000 on, which is sent again each 90,000 ticks: the packet of the set at
@@ -44,16 +43,15 @@ fn packets_of<R: Abort>(rt: &R, alloc: Global, text: &str) -> MemSink {
 }
 
 #[test]
-fn slots_up_to_a_tick(rt: HostRuntime) -> Result<(), Fail> {
+fn slots_up_to_a_tick(rt: HostRuntime) {
     same(&rt, slots_by(0, 90, 90_000), 1_001);
     same(&rt, slots_by(0, 90, 89_999), 1_000);
     same(&rt, slots_by(90, 90, 89), 0);
     same(&rt, slots_by(90, 90, 90), 1);
-    Ok(())
 }
 
 #[test]
-fn a_record_at_the_horizon_changes_what_is_due(rt: HostRuntime) -> Result<(), Fail> {
+fn a_record_at_the_horizon_changes_what_is_due(rt: HostRuntime) {
     let alloc = rt.alloc();
     let before = packets_of(&rt, alloc, SCRIPT);
     let near = packets_of(&rt, alloc, AT_THE_HORIZON);
@@ -62,5 +60,4 @@ fn a_record_at_the_horizon_changes_what_is_due(rt: HostRuntime) -> Result<(), Fa
     same(&rt, due.is_some(), true);
     same(&rt, near.written().get(..DUE) == due, false);
     same(&rt, far.written().get(..DUE) == due, true);
-    Ok(())
 }

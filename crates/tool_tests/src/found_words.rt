@@ -5,12 +5,12 @@ use command_line::positional_words;
 use command_words::are_plain;
 use samples::words_of;
 use std::alloc::Global;
-use std::test::Fail;
-use sub_base::Words;
+use std::panic::Expect;
+use sub_base::{NoMemory, Words};
 
 /// Whether plain words are all found again, in their order. With ample memory nothing else may
 /// happen.
-fn are_found(alloc: Global, words: &Words) -> Result<bool, Fail> {
+fn are_found(alloc: Global, words: &Words) -> Result<bool, NoMemory> {
     if !are_plain(words) {
         return Ok(false);
     }
@@ -27,7 +27,7 @@ fn are_found(alloc: Global, words: &Words) -> Result<bool, Fail> {
 }
 
 #[test]
-fn words_of_a_line_are_found(rt: HostRuntime) -> Result<(), Fail> {
+fn words_of_a_line_are_found(rt: HostRuntime) {
     let lines = [
         "list",
         "compile sd 256 1 script.csv font.bdf out.ts",
@@ -42,27 +42,28 @@ fn words_of_a_line_are_found(rt: HostRuntime) -> Result<(), Fail> {
         "help --no -h",
     ];
     for line in lines {
-        let words = words_of(rt.alloc(), line)?;
-        same(&rt, are_found(rt.alloc(), &words)?, line != "help --no -h");
+        let words = words_of(rt.alloc(), line).expect(&rt, "memory");
+        same(
+            &rt,
+            are_found(rt.alloc(), &words).expect(&rt, "memory"),
+            line != "help --no -h",
+        );
     }
-    Ok(())
 }
 
 #[test]
-fn as_many_words_as_a_command_may_have_are_found(rt: HostRuntime) -> Result<(), Fail> {
-    let mut words = words_of(rt.alloc(), "dump sd 256 1 1 in.ts dump.txt")?;
+fn as_many_words_as_a_command_may_have_are_found(rt: HostRuntime) {
+    let mut words = words_of(rt.alloc(), "dump sd 256 1 1 in.ts dump.txt").expect(&rt, "memory");
     for tick in 0..1_000_u64 {
-        let text = format!(in rt.alloc(); "{tick}")?;
-        words.push(text.as_str())?;
+        let text = format!(in rt.alloc(); "{tick}").expect(&rt, "memory");
+        words.push(text.as_str()).expect(&rt, "memory");
     }
     same(&rt, words.count(), 1_007);
-    assert!(rt; are_found(rt.alloc(), &words)?);
-    Ok(())
+    assert!(rt; are_found(rt.alloc(), &words).expect(&rt, "memory"));
 }
 
 #[test]
-fn no_words_are_found_where_there_are_none(rt: HostRuntime) -> Result<(), Fail> {
+fn no_words_are_found_where_there_are_none(rt: HostRuntime) {
     let words = Words::make(rt.alloc());
-    assert!(rt; are_found(rt.alloc(), &words)?);
-    Ok(())
+    assert!(rt; are_found(rt.alloc(), &words).expect(&rt, "memory"));
 }

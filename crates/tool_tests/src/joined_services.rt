@@ -7,8 +7,8 @@ use crate::same::same;
 use samples::words_of;
 use service_mux::{MuxFault, mux_top, take_top};
 use std::alloc::Global;
-use std::test::Fail;
-use sub_base::{MemSink, ToolStatus, Which};
+use std::panic::Expect;
+use sub_base::{MemSink, NoMemory, ToolStatus, Which};
 
 /// The words of a multiplex of the services 1 and 2, with PMTs on the PIDs 100 and 101 and streams
 /// on 256 and 257.
@@ -56,7 +56,7 @@ fn run(
     second: &[[u8; 188]],
     most: usize,
     failing: Failing,
-) -> Result<Outcome, Fail>
+) -> Result<Outcome, NoMemory>
     requires { 1 ≤ most }
 {
     let words = words_of(alloc, text)?;
@@ -69,7 +69,7 @@ fn run(
 }
 
 /// The PID and the counter of each packet that was written.
-fn heads_of(alloc: Global, out: &MemSink) -> Result<Vec<(u16, u8)>, Fail> {
+fn heads_of(alloc: Global, out: &MemSink) -> Result<Vec<(u16, u8)>, NoMemory> {
     let (packets, _) = out.written().as_chunks::<188>();
     let mut heads = Vec::new(alloc);
     for packet in packets {
@@ -94,7 +94,7 @@ fn second_packets() -> [[u8; 188]; 1] {
 /// Tables come before the frames and in their turns; a packet that is of another PID or missing is
 /// the null packet.
 #[test]
-fn a_multiplex_has_tables_and_frames(rt: HostRuntime) -> Result<(), Fail> {
+fn a_multiplex_has_tables_and_frames(rt: HostRuntime) {
     let wanted = [
         (0, 0),
         (100, 0),
@@ -118,12 +118,13 @@ fn a_multiplex_has_tables_and_frames(rt: HostRuntime) -> Result<(), Fail> {
             &second_packets(),
             most,
             NONE_FAILS,
-        )?;
+        )
+        .expect(&rt, "memory");
         same(&rt, muxed.status, ToolStatus::Done);
         same(&rt, muxed.notes.written(), b"done\n".as_slice());
         same(
             &rt,
-            heads_of(alloc, &muxed.out)?.as_slice(),
+            heads_of(alloc, &muxed.out).expect(&rt, "memory").as_slice(),
             wanted.as_slice(),
         );
         same(
@@ -132,13 +133,12 @@ fn a_multiplex_has_tables_and_frames(rt: HostRuntime) -> Result<(), Fail> {
             Some(packet_of(256, 0, 1).as_slice()),
         );
     }
-    Ok(())
 }
 
 /// A stream that is longer than the other one is joined up to its end, be it the first or the
 /// second.
 #[test]
-fn the_longer_stream_is_joined_whole(rt: HostRuntime) -> Result<(), Fail> {
+fn the_longer_stream_is_joined_whole(rt: HostRuntime) {
     let wanted = [
         (0, 0),
         (100, 0),
@@ -153,32 +153,30 @@ fn the_longer_stream_is_joined_whole(rt: HostRuntime) -> Result<(), Fail> {
     let first = [packet_of(256, 0, 1)];
     let second = [packet_of(257, 0, 2), packet_of(257, 1, 3)];
     let alloc = rt.alloc();
-    let muxed = run(alloc, WORDS, &first, &second, 1_000, NONE_FAILS)?;
+    let muxed = run(alloc, WORDS, &first, &second, 1_000, NONE_FAILS).expect(&rt, "memory");
     same(&rt, muxed.status, ToolStatus::Done);
     same(
         &rt,
-        heads_of(alloc, &muxed.out)?.as_slice(),
+        heads_of(alloc, &muxed.out).expect(&rt, "memory").as_slice(),
         wanted.as_slice(),
     );
-    Ok(())
 }
 
 /// In frame 127 no table has its turn; in frame 128 it is the PAT's again.
 #[test]
-fn tables_come_again_each_128_frames(rt: HostRuntime) -> Result<(), Fail> {
+fn tables_come_again_each_128_frames(rt: HostRuntime) {
     let alloc = rt.alloc();
     let first = [packet_of(256, 0, 1); 129];
-    let muxed = run(alloc, WORDS, &first, &[], 100_000, NONE_FAILS)?;
-    let heads = heads_of(alloc, &muxed.out)?;
+    let muxed = run(alloc, WORDS, &first, &[], 100_000, NONE_FAILS).expect(&rt, "memory");
+    let heads = heads_of(alloc, &muxed.out).expect(&rt, "memory");
     same(&rt, heads.get(3 + 3 * 126), Some(&(8191, 0)));
     same(&rt, heads.get(3 + 3 * 127), Some(&(8191, 0)));
     same(&rt, heads.get(3 + 3 * 128), Some(&(0, 2)));
-    Ok(())
 }
 
 /// What was joined is taken out again: the packets of each service, byte for byte.
 #[test]
-fn services_are_taken_out_again(rt: HostRuntime) -> Result<(), Fail> {
+fn services_are_taken_out_again(rt: HostRuntime) {
     let alloc = rt.alloc();
     let muxed = run(
         alloc,
@@ -187,27 +185,27 @@ fn services_are_taken_out_again(rt: HostRuntime) -> Result<(), Fail> {
         &second_packets(),
         1_000,
         NONE_FAILS,
-    )?;
+    )
+    .expect(&rt, "memory");
     let [one, _, three] = first_packets();
     let both = [one, three];
     for (line, wanted) in [
         ("take 1 both.ts out.ts", both.as_slice()),
         ("take 2 both.ts out.ts", second_packets().as_slice()),
     ] {
-        let words = words_of(alloc, line)?;
-        let mut stream = source_of(alloc, muxed.out.written(), 1_000)?;
-        let mut out = sink_of(alloc, 0)?;
-        let mut notes = sink_of(alloc, 0)?;
+        let words = words_of(alloc, line).expect(&rt, "memory");
+        let mut stream = source_of(alloc, muxed.out.written(), 1_000).expect(&rt, "memory");
+        let mut out = sink_of(alloc, 0).expect(&rt, "memory");
+        let mut notes = sink_of(alloc, 0).expect(&rt, "memory");
         let status = take_top(alloc, &words, &mut stream, &mut out, &mut notes);
         same(&rt, status, ToolStatus::Done);
         same(&rt, out.written(), wanted.as_flattened());
     }
-    Ok(())
 }
 
 /// In one frame the first stream comes first.
 #[test]
-fn packets_without_the_sync_byte_are_refused(rt: HostRuntime) -> Result<(), Fail> {
+fn packets_without_the_sync_byte_are_refused(rt: HostRuntime) {
     let bad = [0; 188];
     let (one, two) = (packet_of(256, 0, 1), packet_of(257, 0, 2));
     let first_at_1 = ToolStatus::Refused(MuxFault::FirstNoSync { packet: 1 });
@@ -237,16 +235,17 @@ fn packets_without_the_sync_byte_are_refused(rt: HostRuntime) -> Result<(), Fail
         ),
     ];
     for (first, second, status, count, note) in rows {
-        let muxed = run(rt.alloc(), WORDS, &first, &second, 1_000, NONE_FAILS)?;
+        let muxed = run(rt.alloc(), WORDS, &first, &second, 1_000, NONE_FAILS).expect(
+            &rt, "memory",
+        );
         same(&rt, muxed.status, status);
         same(&rt, muxed.out.written().len(), 188 * count);
         same(&rt, muxed.notes.written(), note);
     }
-    Ok(())
 }
 
 #[test]
-fn failing_sources_and_sinks_are_told(rt: HostRuntime) -> Result<(), Fail> {
+fn failing_sources_and_sinks_are_told(rt: HostRuntime) {
     let rows = [
         (
             Failing {
@@ -285,14 +284,14 @@ fn failing_sources_and_sinks_are_told(rt: HostRuntime) -> Result<(), Fail> {
             &second_packets(),
             1_000,
             failing,
-        )?;
+        )
+        .expect(&rt, "memory");
         same(&rt, muxed.status, status);
     }
-    Ok(())
 }
 
 #[test]
-fn other_words_are_no_command(rt: HostRuntime) -> Result<(), Fail> {
+fn other_words_are_no_command(rt: HostRuntime) {
     let lines = [
         "mux 1 100 256 1 eng 1 101 257 7 fre a b c",
         "mux 1 100 256 1 eng 2 100 257 7 fre a b c",
@@ -317,10 +316,10 @@ fn other_words_are_no_command(rt: HostRuntime) -> Result<(), Fail> {
             &second_packets(),
             1_000,
             NONE_FAILS,
-        )?;
+        )
+        .expect(&rt, "memory");
         same(&rt, muxed.status, ToolStatus::Usage);
         same(&rt, muxed.notes.written(), b"usage\n".as_slice());
         same(&rt, muxed.out.written(), b"".as_slice());
     }
-    Ok(())
 }

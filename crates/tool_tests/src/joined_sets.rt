@@ -8,8 +8,8 @@ use command_words::InputPlaces;
 use samples::words_of;
 use splice::{SpliceFault, splice_inputs};
 use std::alloc::Global;
-use std::test::Fail;
-use sub_base::ToolStatus;
+use std::panic::Expect;
+use sub_base::{NoMemory, ToolStatus};
 
 // PES packets of pages without regions, shown at 90000, that were worked out by hand from the
 // tables of the standards.
@@ -37,7 +37,7 @@ const BOTH: [u8; 45] = [
 /// its page stands: first, or behind the display. A set ends with its end segment, whatever is
 /// behind it.
 #[test]
-fn mode_changes(rt: HostRuntime) -> Result<(), Fail> {
+fn mode_changes(rt: HostRuntime) {
     let alloc = rt.alloc();
     let first = picture_stream();
     let unshown = ToolStatus::Refused(SpliceFault::NotShown {
@@ -56,15 +56,14 @@ fn mode_changes(rt: HostRuntime) -> Result<(), Fail> {
     let text = "splice sd 256 1 0 270000 a b o";
     for (packets, count, status) in cases {
         let second = packets.get(..count).unwrap_or(&[]);
-        let joined = join(alloc, text, &first, second, [0; 3])?;
+        let joined = join(alloc, text, &first, second, [0; 3]).expect(&rt, "memory");
         same(&rt, joined.status, status);
     }
-    Ok(())
 }
 
 /// A set is sent in one PES packet with its new time: 270000 and 360000 ticks, and 2^33 more.
 #[test]
-fn packets_with_new_times(rt: HostRuntime) -> Result<(), Fail> {
+fn packets_with_new_times(rt: HostRuntime) {
     let alloc = rt.alloc();
     let stream = [
         packet_with(0, &OPENING, None),
@@ -80,21 +79,20 @@ fn packets_with_new_times(rt: HostRuntime) -> Result<(), Fail> {
         "splice sd 256 1 0 270000 a a o",
         "splice sd 256 1 8589934591 8590204592 a a o",
     ] {
-        let joined = join(alloc, text, &stream, &stream, [0; 3])?;
+        let joined = join(alloc, text, &stream, &stream, [0; 3]).expect(&rt, "memory");
         same_at(&rt, text, joined.status, ToolStatus::Done);
         same_at(&rt, text, joined.out.written(), wanted.as_flattened());
     }
-    Ok(())
 }
 
 /// Where the files of words stand that are parted by blanks.
-fn places_of(alloc: Global, text: &str) -> Result<InputPlaces, Fail> {
+fn places_of(alloc: Global, text: &str) -> Result<InputPlaces, NoMemory> {
     Ok(splice_inputs(&words_of(alloc, text)?))
 }
 
 /// The files stand behind the cut, and nowhere where a word is out of its range.
 #[test]
-fn files_among_the_words(rt: HostRuntime) -> Result<(), Fail> {
+fn files_among_the_words(rt: HostRuntime) {
     let alloc = rt.alloc();
     let places = InputPlaces {
         first: Some(6),
@@ -108,7 +106,7 @@ fn files_among_the_words(rt: HostRuntime) -> Result<(), Fail> {
     };
     same(
         &rt,
-        places_of(alloc, "splice sd 256 1 0 270000 a b o")?,
+        places_of(alloc, "splice sd 256 1 0 270000 a b o").expect(&rt, "memory"),
         places,
     );
     same(
@@ -116,7 +114,8 @@ fn files_among_the_words(rt: HostRuntime) -> Result<(), Fail> {
         places_of(
             alloc,
             "splice large 8190 65535 8589934591 17179869183 a b o",
-        )?,
+        )
+        .expect(&rt, "memory"),
         places,
     );
     for text in [
@@ -129,7 +128,11 @@ fn files_among_the_words(rt: HostRuntime) -> Result<(), Fail> {
         "splice sd 256 1 0 270000 a b",
         "pair sd 256 1 0 270000 a b o",
     ] {
-        same_at(&rt, text, places_of(alloc, text)?, nowhere);
+        same_at(
+            &rt,
+            text,
+            places_of(alloc, text).expect(&rt, "memory"),
+            nowhere,
+        );
     }
-    Ok(())
 }

@@ -5,8 +5,8 @@ use crate::same::{same, same_at};
 use samples::words_of;
 use splice::{SpliceFault, splice_top};
 use std::alloc::Global;
-use std::test::Fail;
-use sub_base::{MemSink, ToolStatus, Which};
+use std::panic::Expect;
+use sub_base::{MemSink, NoMemory, ToolStatus, Which};
 
 // Bytes that were worked out by hand from the tables of the standards.
 
@@ -78,7 +78,7 @@ pub(crate) fn join(
     first: &[[u8; 188]],
     second: &[[u8; 188]],
     fails: [u64; 3],
-) -> Result<Outcome, Fail> {
+) -> Result<Outcome, NoMemory> {
     let words = words_of(alloc, text)?;
     let [first_read, second_read, bad_write] = fails;
     let mut first = stream_of(alloc, first, &[0x47; 100], 100, first_read)?;
@@ -92,7 +92,7 @@ pub(crate) fn join(
 /// A stream with itself: the second time its sets come 180000 ticks later, their packets in the
 /// next slots and with the next counters.
 #[test]
-fn a_stream_with_itself(rt: HostRuntime) -> Result<(), Fail> {
+fn a_stream_with_itself(rt: HostRuntime) {
     let alloc = rt.alloc();
     let stream = picture_stream();
     let joined = join(
@@ -101,7 +101,8 @@ fn a_stream_with_itself(rt: HostRuntime) -> Result<(), Fail> {
         &stream,
         &stream,
         [0; 3],
-    )?;
+    )
+    .expect(&rt, "memory");
     same(&rt, joined.status, ToolStatus::Done);
     same(&rt, joined.notes.written(), b"done\n".as_slice());
     let wanted = [
@@ -116,12 +117,11 @@ fn a_stream_with_itself(rt: HostRuntime) -> Result<(), Fail> {
     for (packet, wanted) in packets.iter().zip(&wanted) {
         same(&rt, packet.as_slice(), wanted.as_slice());
     }
-    Ok(())
 }
 
 /// Cuts beside the end of the first stream, and far behind it; and a second stream without sets.
 #[test]
-fn cuts_of_a_stream_with_itself(rt: HostRuntime) -> Result<(), Fail> {
+fn cuts_of_a_stream_with_itself(rt: HostRuntime) {
     let alloc = rt.alloc();
     let stream = picture_stream();
     let close = ToolStatus::Refused(SpliceFault::CutTooClose { last: 180_000 });
@@ -137,7 +137,7 @@ fn cuts_of_a_stream_with_itself(rt: HostRuntime) -> Result<(), Fail> {
     ];
     for (text, packets, status, bytes) in cases {
         let second = stream.get(..packets).unwrap_or(&[]);
-        let joined = join(alloc, text, &stream, second, [0; 3])?;
+        let joined = join(alloc, text, &stream, second, [0; 3]).expect(&rt, "memory");
         same_at(&rt, text, joined.status, status);
         same_at(&rt, text, joined.out.written().len(), bytes);
     }
@@ -147,18 +147,18 @@ fn cuts_of_a_stream_with_itself(rt: HostRuntime) -> Result<(), Fail> {
         &stream,
         &stream,
         [0; 3],
-    )?;
+    )
+    .expect(&rt, "memory");
     let (packets, _) = alone.out.written().as_chunks::<188>();
     for (packet, wanted) in packets.iter().zip(&stream) {
         same(&rt, packet.as_slice(), wanted.as_slice());
     }
-    Ok(())
 }
 
 /// Streams that lack a packet, that begin with the second set, and with another first byte: the
 /// kind of the fault goes before the stream. Reads and writes that fail.
 #[test]
-fn streams_that_are_not_joined(rt: HostRuntime) -> Result<(), Fail> {
+fn streams_that_are_not_joined(rt: HostRuntime) {
     let alloc = rt.alloc();
     let good = picture_stream();
     let [first, second] = good;
@@ -179,24 +179,23 @@ fn streams_that_are_not_joined(rt: HostRuntime) -> Result<(), Fail> {
         (&good, &good, [0, 0, 1], "write out\n"),
     ];
     for (one, two, fails, note) in cases {
-        let joined = join(alloc, text, one, two, fails)?;
+        let joined = join(alloc, text, one, two, fails).expect(&rt, "memory");
         same_at(&rt, note, joined.notes.written(), note.as_bytes());
         same_at(&rt, note, joined.out.written().len(), 0);
     }
-    let refused = join(alloc, text, &lossy, &good, [0; 3])?;
+    let refused = join(alloc, text, &lossy, &good, [0; 3]).expect(&rt, "memory");
     let fault = SpliceFault::Lost {
         second: false,
         packet: 1,
     };
     same(&rt, refused.status, ToolStatus::Refused(fault));
-    let refused = join(alloc, text, &good, &bad, [0; 3])?;
+    let refused = join(alloc, text, &good, &bad, [0; 3]).expect(&rt, "memory");
     let fault = SpliceFault::Packet {
         second: true,
         packet: 1,
         fault: stream_syntax::PacketFault::NoSync,
     };
     same(&rt, refused.status, ToolStatus::Refused(fault));
-    let failed = join(alloc, text, &good, &good, [0, 0, 1])?;
+    let failed = join(alloc, text, &good, &good, [0, 0, 1]).expect(&rt, "memory");
     same(&rt, failed.status, ToolStatus::WriteFault(Which::Out));
-    Ok(())
 }

@@ -10,8 +10,8 @@ use live_plan::{LiveFault, live_top};
 use samples::words_of;
 use script_stream::compile_script;
 use std::alloc::Global;
-use std::test::Fail;
-use sub_base::{MemSink, MemSource, ProfileName, ToolStatus, Which};
+use std::panic::Expect;
+use sub_base::{MemSink, MemSource, NoMemory, ProfileName, ToolStatus, Which};
 
 const LIVE: &str = "live sd 256 1 script.csv none out.ts";
 
@@ -61,7 +61,7 @@ fn run(
     first: &mut MemSource,
     bad_write: u64,
     bad_line: u64,
-) -> Result<Outcome, Fail> {
+) -> Result<Outcome, NoMemory> {
     let words = words_of(alloc, LIVE)?;
     let mut second = source_of(alloc, &[], 1)?;
     let mut out = sink_of(alloc, bad_write)?;
@@ -71,7 +71,7 @@ fn run(
 }
 
 /// The same over a text that is read in pieces of so many bytes, with no call that fails.
-fn run_of(alloc: Global, text: &str, most: usize) -> Result<Outcome, Fail>
+fn run_of(alloc: Global, text: &str, most: usize) -> Result<Outcome, NoMemory>
     requires { 1 ≤ most }
 {
     let mut first = source_of(alloc, text.as_bytes(), most)?;
@@ -79,7 +79,7 @@ fn run_of(alloc: Global, text: &str, most: usize) -> Result<Outcome, Fail>
 }
 
 /// The packets that the compiler makes of a script.
-fn compiled(alloc: Global, text: &str) -> Result<MemSink, Fail> {
+fn compiled(alloc: Global, text: &str) -> Result<MemSink, NoMemory> {
     let font = Font::empty(alloc);
     let mut out = sink_of(alloc, 0)?;
     if let Ok(script) = Script::read(alloc, text.as_bytes(), &font) {
@@ -91,12 +91,12 @@ fn compiled(alloc: Global, text: &str) -> Result<MemSink, Fail> {
 /// A record on the horizon is refused, and one a tick above it accepted; what is written is what
 /// the compiler makes of the records that were accepted, however the script comes.
 #[test]
-fn records_at_the_horizon(rt: HostRuntime) -> Result<(), Fail> {
+fn records_at_the_horizon(rt: HostRuntime) {
     let alloc = rt.alloc();
-    let accepted = compiled(alloc, ACCEPTED)?;
+    let accepted = compiled(alloc, ACCEPTED).expect(&rt, "memory");
     same(&rt, accepted.written().is_empty(), false);
     for most in [1, 100, 4_096, 100_000] {
-        let told = run_of(alloc, AT_THE_HORIZON, most)?;
+        let told = run_of(alloc, AT_THE_HORIZON, most).expect(&rt, "memory");
         same(&rt, told.status, ToolStatus::Done);
         same(
             &rt,
@@ -105,16 +105,15 @@ fn records_at_the_horizon(rt: HostRuntime) -> Result<(), Fail> {
         );
         same(&rt, told.out.written() == accepted.written(), true);
     }
-    Ok(())
 }
 
 /// Where the script cannot be read on, what is due is there, and no more.
 #[test]
-fn what_is_due_is_there(rt: HostRuntime) -> Result<(), Fail> {
+fn what_is_due_is_there(rt: HostRuntime) {
     let alloc = rt.alloc();
-    let text = Vec::from_slice(alloc, UP_TO_A_TICK.as_bytes())?;
-    let mut first = MemSource::make(alloc, text, 4_096, vec![in alloc; 2]?);
-    let told = run(alloc, &mut first, 0, 0)?;
+    let text = Vec::from_slice(alloc, UP_TO_A_TICK.as_bytes()).expect(&rt, "memory");
+    let mut first = MemSource::make(alloc, text, 4_096, vec![in alloc; 2].expect(&rt, "memory"));
+    let told = run(alloc, &mut first, 0, 0).expect(&rt, "memory");
     same(&rt, told.status, ToolStatus::ReadFault(Which::First));
     same(&rt, told.notes.written(), b"read first\n".as_slice());
     let written = told.out.written();
@@ -123,42 +122,39 @@ fn what_is_due_is_there(rt: HostRuntime) -> Result<(), Fail> {
     same(&rt, before, Some([0x47, 0x1F, 0xFF].as_slice()));
     let first = written.get(FIRST_OF_THE_SET..FIRST_OF_THE_SET + 3);
     same(&rt, first, Some([0x47, 0x41, 0x00].as_slice()));
-    let whole = compiled(alloc, ACCEPTED)?;
+    let whole = compiled(alloc, ACCEPTED).expect(&rt, "memory");
     same(&rt, Some(written) == whole.written().get(..DUE), true);
-    Ok(())
 }
 
 /// Each refused record has its line, with its number among the pieces that have records.
 #[test]
-fn records_that_are_refused(rt: HostRuntime) -> Result<(), Fail> {
+fn records_that_are_refused(rt: HostRuntime) {
     let alloc = rt.alloc();
-    let told = run_of(alloc, REFUSED, 7)?;
+    let told = run_of(alloc, REFUSED, 7).expect(&rt, "memory");
     same(&rt, told.status, ToolStatus::Refused(LiveFault::NoEpoch));
     same(&rt, told.notes.written(), REFUSED_LINES.as_bytes());
     same(&rt, told.out.written().len(), 0);
-    Ok(())
 }
 
 /// A sink that fails ends the run: the output's with its line, the notes' with none.
 #[test]
-fn sinks_that_fail(rt: HostRuntime) -> Result<(), Fail> {
+fn sinks_that_fail(rt: HostRuntime) {
     let alloc = rt.alloc();
-    let mut script = source_of(alloc, AT_THE_HORIZON.as_bytes(), 100)?;
-    let unwritten = run(alloc, &mut script, 1, 0)?;
+    let mut script = source_of(alloc, AT_THE_HORIZON.as_bytes(), 100).expect(&rt, "memory");
+    let unwritten = run(alloc, &mut script, 1, 0).expect(&rt, "memory");
     same(&rt, unwritten.status, ToolStatus::WriteFault(Which::Out));
     same(&rt, unwritten.notes.written(), b"write out\n".as_slice());
-    let mut script = source_of(alloc, AT_THE_HORIZON.as_bytes(), 100)?;
-    let untold = run(alloc, &mut script, 0, 1)?;
+    let mut script = source_of(alloc, AT_THE_HORIZON.as_bytes(), 100).expect(&rt, "memory");
+    let untold = run(alloc, &mut script, 0, 1).expect(&rt, "memory");
     same(&rt, untold.status, ToolStatus::WriteFault(Which::Notes));
     same(&rt, untold.notes.written().len(), 0);
     same(&rt, untold.out.written().len(), DUE);
-    let mut script = source_of(alloc, AT_THE_HORIZON.as_bytes(), 100)?;
-    let at_the_end = run(alloc, &mut script, 0, 2)?;
+    let mut script = source_of(alloc, AT_THE_HORIZON.as_bytes(), 100).expect(&rt, "memory");
+    let at_the_end = run(alloc, &mut script, 0, 2).expect(&rt, "memory");
     same(&rt, at_the_end.status, ToolStatus::WriteFault(Which::Notes));
     same(
         &rt,
         at_the_end.notes.written(),
         b"refused 9 Early\n".as_slice(),
     );
-    Ok(())
 }

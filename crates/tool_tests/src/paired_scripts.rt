@@ -5,9 +5,10 @@ use crate::same::same;
 use page_pair::{PairFault, pair_top};
 use samples::words_of;
 use std::alloc::Global;
-use std::test::Fail;
+use std::panic::Expect;
+use std::process::Abort;
 use std::thread::Threads;
-use sub_base::{MemSink, NoGate, ToolStatus, Which};
+use sub_base::{MemSink, NoGate, NoMemory, ToolStatus, Which};
 
 /// A picture of 4 by 2 pixels that is shown for a second.
 const SCRIPT: &str = "origin,0\ndisplay,4,2\nrefresh,5\nepoch,90000\nregion,0,0,0,4,2,8,0\n\
@@ -81,19 +82,19 @@ struct Outcome {
 }
 
 /// Carries out the command over these bytes, where the sink fails at the call of that number.
-fn run<R: Threads + Sync>(
+fn run<R: Threads + Sync + Abort>(
     rt: &R,
     alloc: Global,
     text: &str,
     first: &[u8],
     second: &[u8],
     failing: u64,
-) -> Result<Outcome, Fail> {
-    let words = words_of(alloc, text)?;
-    let mut first = source_of(alloc, first, 100)?;
-    let mut second = source_of(alloc, second, 100)?;
-    let mut out = sink_of(alloc, failing)?;
-    let mut notes = sink_of(alloc, 0)?;
+) -> Outcome {
+    let words = words_of(alloc, text).expect(rt, "memory");
+    let mut first = source_of(alloc, first, 100).expect(rt, "memory");
+    let mut second = source_of(alloc, second, 100).expect(rt, "memory");
+    let mut out = sink_of(alloc, failing).expect(rt, "memory");
+    let mut notes = sink_of(alloc, 0).expect(rt, "memory");
     let status = pair_top(
         rt,
         alloc,
@@ -104,7 +105,7 @@ fn run<R: Threads + Sync>(
         &mut notes,
         &NoGate,
     );
-    Ok(Outcome { status, out, notes })
+    Outcome { status, out, notes }
 }
 
 /// The bytes of an output from one place to another.
@@ -113,7 +114,7 @@ fn part(out: &MemSink, from: usize, to: usize) -> &[u8] {
 }
 
 /// The packets of the script sent twice, worked out by hand.
-fn packets(alloc: Global) -> Result<Vec<u8>, Fail> {
+fn packets(alloc: Global) -> Result<Vec<u8>, NoMemory> {
     let mut bytes = Vec::new(alloc);
     bytes.extend_from_slice(&FIRST_PACKET)?;
     bytes.extend_from_slice(&[0xFF; 31])?;
@@ -131,38 +132,40 @@ fn packets(alloc: Global) -> Result<Vec<u8>, Fail> {
 
 /// What both languages send is sent once: the PES packets have 151 and 45 bytes.
 #[test]
-fn a_script_and_itself(rt: HostRuntime) -> Result<(), Fail> {
+fn a_script_and_itself(rt: HostRuntime) {
     let alloc = rt.alloc();
     let script = SCRIPT.as_bytes();
-    let sent = run(&rt, alloc, PAIR, script, script, 0)?;
+    let sent = run(&rt, alloc, PAIR, script, script, 0);
     same(&rt, sent.status, ToolStatus::Done);
     same(&rt, sent.notes.written(), b"done\n".as_slice());
-    same(&rt, sent.out.written(), packets(alloc)?.as_slice());
-    Ok(())
+    same(
+        &rt,
+        sent.out.written(),
+        packets(alloc).expect(&rt, "memory").as_slice(),
+    );
 }
 
 /// A receiver of either page shows the script.
 #[test]
-fn pictures_of_both_pages(rt: HostRuntime) -> Result<(), Fail> {
+fn pictures_of_both_pages(rt: HostRuntime) {
     let alloc = rt.alloc();
-    let stream = packets(alloc)?;
+    let stream = packets(alloc).expect(&rt, "memory");
     for line in [
         "pairdump sd 256 1 3 1 both.ts a.txt 90000 180000",
         "pairdump sd 256 2 3 2 both.ts b.txt 90000 180000",
     ] {
-        let told = run(&rt, alloc, line, stream.as_slice(), &[], 0)?;
+        let told = run(&rt, alloc, line, stream.as_slice(), &[], 0);
         same(&rt, told.status, ToolStatus::Done);
         same(&rt, told.out.written(), PICTURES.as_bytes());
     }
-    Ok(())
 }
 
 /// Pictures that differ are sent of each language: the PES packets have 181 and 45 bytes.
 #[test]
-fn scripts_of_other_pictures(rt: HostRuntime) -> Result<(), Fail> {
+fn scripts_of_other_pictures(rt: HostRuntime) {
     let alloc = rt.alloc();
     let script = SCRIPT.as_bytes();
-    let sent = run(&rt, alloc, PAIR, script, OTHER_PICTURE.as_bytes(), 0)?;
+    let sent = run(&rt, alloc, PAIR, script, OTHER_PICTURE.as_bytes(), 0);
     same(&rt, sent.status, ToolStatus::Done);
     same(&rt, sent.out.written().len(), 376);
     same(
@@ -175,15 +178,14 @@ fn scripts_of_other_pictures(rt: HostRuntime) -> Result<(), Fail> {
         part(&sent.out, 331, 337),
         [0, 0, 1, 0xBD, 0, 39].as_slice(),
     );
-    Ok(())
 }
 
 /// What is refused, and where nothing is written.
 #[test]
-fn pairs_that_are_refused(rt: HostRuntime) -> Result<(), Fail> {
+fn pairs_that_are_refused(rt: HostRuntime) {
     let alloc = rt.alloc();
     let script = SCRIPT.as_bytes();
-    let uneven = run(&rt, alloc, PAIR, script, OTHER_END.as_bytes(), 0)?;
+    let uneven = run(&rt, alloc, PAIR, script, OTHER_END.as_bytes(), 0);
     same(
         &rt,
         uneven.status,
@@ -191,11 +193,10 @@ fn pairs_that_are_refused(rt: HostRuntime) -> Result<(), Fail> {
     );
     same(&rt, uneven.notes.written(), b"refused Uneven\n".as_slice());
     same(&rt, uneven.out.written().len(), 0);
-    let unwritten = run(&rt, alloc, PAIR, script, script, 1)?;
+    let unwritten = run(&rt, alloc, PAIR, script, script, 1);
     same(&rt, unwritten.status, ToolStatus::WriteFault(Which::Out));
     same(&rt, unwritten.notes.written(), b"write out\n".as_slice());
     let same_pages = "pair sd 256 1 2 1 a.csv b.csv both.ts";
-    let usage = run(&rt, alloc, same_pages, script, script, 0)?;
+    let usage = run(&rt, alloc, same_pages, script, script, 0);
     same(&rt, usage.status, ToolStatus::Usage);
-    Ok(())
 }

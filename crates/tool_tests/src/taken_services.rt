@@ -7,9 +7,9 @@ use crate::same::same;
 use samples::words_of;
 use service_mux::{TakeFault, take_top};
 use std::alloc::Global;
+use std::panic::Expect;
 use std::process::Abort;
-use std::test::Fail;
-use sub_base::{MemSink, ToolStatus, Which};
+use sub_base::{MemSink, NoMemory, ToolStatus, Which};
 
 // Sections that were worked out by hand from the tables of the standard, with their CRC.
 
@@ -101,7 +101,7 @@ fn run(
     further: &[u8],
     most: usize,
     fails: [u64; 3],
-) -> Result<Outcome, Fail>
+) -> Result<Outcome, NoMemory>
     requires { 1 ≤ most }
 {
     let [bad_read, bad_write, bad_note] = fails;
@@ -114,15 +114,12 @@ fn run(
 }
 
 /// That service 5 of these packets has those of these numbers, however they are read.
-fn are_taken<R: Abort>(
-    rt: &R,
-    alloc: Global,
-    packets: &[[u8; 188]],
-    numbers: &[usize],
-) -> Result<(), Fail> {
+fn are_taken<R: Abort>(rt: &R, alloc: Global, packets: &[[u8; 188]], numbers: &[usize]) {
     let mut wanted = Vec::new(alloc);
     for number in numbers {
-        wanted.extend_from_slice(packets.get(*number).ok_or("no packet")?)?;
+        wanted
+            .extend_from_slice(packets.get(*number).expect(rt, "no packet"))
+            .expect(rt, "memory");
     }
     for most in [7, 188, 100_000] {
         let taken = run(
@@ -132,23 +129,17 @@ fn are_taken<R: Abort>(
             &[0x47; 100],
             most,
             [0; 3],
-        )?;
+        )
+        .expect(rt, "memory");
         same(&rt, taken.status, ToolStatus::Done);
         same(&rt, taken.notes.written(), b"done\n".as_slice());
         same(&rt, taken.out.written(), wanted.as_slice());
     }
-    Ok(())
 }
 
 /// That these packets have no subtitles of the service.
-fn are_none<R: Abort>(
-    rt: &R,
-    alloc: Global,
-    text: &str,
-    number: u16,
-    packets: &[[u8; 188]],
-) -> Result<(), Fail> {
-    let taken = run(alloc, text, packets, &[], 1_000, [0; 3])?;
+fn are_none<R: Abort>(rt: &R, alloc: Global, text: &str, number: u16, packets: &[[u8; 188]]) {
+    let taken = run(alloc, text, packets, &[], 1_000, [0; 3]).expect(rt, "memory");
     same(
         &rt,
         taken.status,
@@ -160,11 +151,10 @@ fn are_none<R: Abort>(
         b"refused NoService\n".as_slice(),
     );
     same(&rt, taken.out.written(), b"".as_slice());
-    Ok(())
 }
 
 #[test]
-fn packets_behind_the_tables_are_taken(rt: HostRuntime) -> Result<(), Fail> {
+fn packets_behind_the_tables_are_taken(rt: HostRuntime) {
     let packets = [
         subtitles_of(0x20, 0),
         section_of(0x64, 0, &OTHER_PMT),
@@ -184,7 +174,7 @@ fn packets_behind_the_tables_are_taken(rt: HostRuntime) -> Result<(), Fail> {
 }
 
 #[test]
-fn tables_that_do_not_count_are_passed_by(rt: HostRuntime) -> Result<(), Fail> {
+fn tables_that_do_not_count_are_passed_by(rt: HostRuntime) {
     let packets = [
         section_of(0x00, 0, &PMT_OF_NINE),
         section_of(0x00, 1, &PAT),
@@ -211,7 +201,7 @@ fn begun_with(section: &[u8]) -> [u8; 188] {
 }
 
 #[test]
-fn sections_go_on_in_later_packets(rt: HostRuntime) -> Result<(), Fail> {
+fn sections_go_on_in_later_packets(rt: HostRuntime) {
     let packets = [
         section_of(0x00, 0, &PAT),
         begun_with(&PMT),
@@ -226,7 +216,7 @@ fn sections_go_on_in_later_packets(rt: HostRuntime) -> Result<(), Fail> {
 }
 
 #[test]
-fn bytes_before_the_pointer_end_a_section(rt: HostRuntime) -> Result<(), Fail> {
+fn bytes_before_the_pointer_end_a_section(rt: HostRuntime) {
     let rest = PMT.get(20..).unwrap_or(&[]);
     let rest_of_nine = PMT_OF_NINE.get(20..).unwrap_or(&[]);
     // The service's section ends there, or begins behind the end of another one.
@@ -243,20 +233,19 @@ fn bytes_before_the_pointer_end_a_section(rt: HostRuntime) -> Result<(), Fail> {
             ended,
             subtitles_of(0x20, 0),
         ];
-        are_taken(&rt, rt.alloc(), &packets, &[3])?;
+        are_taken(&rt, rt.alloc(), &packets, &[3]);
     }
-    Ok(())
 }
 
 #[test]
-fn sections_stand_together_up_to_stuffing(rt: HostRuntime) -> Result<(), Fail> {
+fn sections_stand_together_up_to_stuffing(rt: HostRuntime) {
     let both = with_bytes(section_of(0x64, 0, &PMT_OF_NINE), 36, &PMT);
     let stuffed = with_bytes(section_of(0x64, 0, &PMT_OF_NINE), 37, &PMT);
     let table = section_of(0x00, 0, &PAT);
     let subtitles = subtitles_of(0x20, 0);
-    are_taken(&rt, rt.alloc(), &[table, both, subtitles], &[2])?;
+    are_taken(&rt, rt.alloc(), &[table, both, subtitles], &[2]);
     let packets = [table, stuffed, subtitles];
-    are_none(&rt, rt.alloc(), "take 5 in.ts out.ts", 5, &packets)?;
+    are_none(&rt, rt.alloc(), "take 5 in.ts out.ts", 5, &packets);
     // Behind the first byte FF nothing is a section, whatever stands there.
     let hidden = with_bytes(section_of(0x64, 0, &[0xFF, 0x00, 0x00]), 8, &PMT);
     let packets = [table, hidden, subtitles];
@@ -264,7 +253,7 @@ fn sections_stand_together_up_to_stuffing(rt: HostRuntime) -> Result<(), Fail> {
 }
 
 #[test]
-fn the_first_of_several_tables_counts(rt: HostRuntime) -> Result<(), Fail> {
+fn the_first_of_several_tables_counts(rt: HostRuntime) {
     let packets = [
         section_of(0x00, 0, &PAT),
         with_bytes(section_of(0x64, 0, &PMT), 41, &OTHER_PMT),
@@ -276,7 +265,7 @@ fn the_first_of_several_tables_counts(rt: HostRuntime) -> Result<(), Fail> {
 
 /// A packet with the counter of the one before it is taken for that packet sent twice.
 #[test]
-fn a_packet_that_is_sent_twice_counts_once(rt: HostRuntime) -> Result<(), Fail> {
+fn a_packet_that_is_sent_twice_counts_once(rt: HostRuntime) {
     let packets = [
         section_of(0x00, 0, &PAT),
         begun_with(&PMT),
@@ -289,7 +278,7 @@ fn a_packet_that_is_sent_twice_counts_once(rt: HostRuntime) -> Result<(), Fail> 
 }
 
 #[test]
-fn sections_that_are_cut_off_are_dropped(rt: HostRuntime) -> Result<(), Fail> {
+fn sections_that_are_cut_off_are_dropped(rt: HostRuntime) {
     let rest = PMT.get(20..).unwrap_or(&[]);
     let next = packet_of(&[0x47, 0x00, 0x64, 0x11], rest);
     let second = packet_of(&[0x47, 0x00, 0x64, 0x12], rest);
@@ -312,13 +301,12 @@ fn sections_that_are_cut_off_are_dropped(rt: HostRuntime) -> Result<(), Fail> {
             later,
             subtitles_of(0x20, 0),
         ];
-        are_none(&rt, rt.alloc(), "take 5 in.ts out.ts", 5, &packets)?;
+        are_none(&rt, rt.alloc(), "take 5 in.ts out.ts", 5, &packets);
     }
-    Ok(())
 }
 
 #[test]
-fn a_service_without_subtitles_is_refused(rt: HostRuntime) -> Result<(), Fail> {
+fn a_service_without_subtitles_is_refused(rt: HostRuntime) {
     let packets = [
         section_of(0x00, 0, &PAT),
         section_of(0x65, 0, &PMT_OF_SIX),
@@ -326,14 +314,14 @@ fn a_service_without_subtitles_is_refused(rt: HostRuntime) -> Result<(), Fail> {
         subtitles_of(0x20, 0),
     ];
     let alloc = rt.alloc();
-    are_none(&rt, alloc, "take 6 in.ts out.ts", 6, &packets)?;
-    are_none(&rt, alloc, "take 1 in.ts out.ts", 1, &packets)?;
-    are_none(&rt, alloc, "take 65535 in.ts out.ts", 65_535, &packets)?;
+    are_none(&rt, alloc, "take 6 in.ts out.ts", 6, &packets);
+    are_none(&rt, alloc, "take 1 in.ts out.ts", 1, &packets);
+    are_none(&rt, alloc, "take 65535 in.ts out.ts", 65_535, &packets);
     are_none(&rt, alloc, "take 5 in.ts out.ts", 5, &[])
 }
 
 #[test]
-fn a_stream_that_fails_is_told(rt: HostRuntime) -> Result<(), Fail> {
+fn a_stream_that_fails_is_told(rt: HostRuntime) {
     let alloc = rt.alloc();
     let subtitles = subtitles_of(0x20, 0);
     let packets = [
@@ -364,7 +352,9 @@ fn a_stream_that_fails_is_told(rt: HostRuntime) -> Result<(), Fail> {
         ),
     ];
     for (fails, status, note, written) in rows {
-        let taken = run(alloc, "take 5 in.ts out.ts", &packets, &[], 188, fails)?;
+        let taken = run(alloc, "take 5 in.ts out.ts", &packets, &[], 188, fails).expect(
+            &rt, "memory",
+        );
         same(&rt, taken.status, status);
         same(&rt, taken.notes.written(), note.as_bytes());
         same(&rt, taken.out.written(), written);
@@ -374,14 +364,15 @@ fn a_stream_that_fails_is_told(rt: HostRuntime) -> Result<(), Fail> {
         section_of(0x64, 0, &PMT),
         subtitles,
     ];
-    let untold = run(alloc, "take 5 in.ts out.ts", &whole, &[], 188, [0, 0, 1])?;
+    let untold = run(alloc, "take 5 in.ts out.ts", &whole, &[], 188, [0, 0, 1]).expect(
+        &rt, "memory",
+    );
     same(&rt, untold.status, ToolStatus::WriteFault(Which::Notes));
     same(&rt, untold.out.written(), subtitles.as_slice());
-    Ok(())
 }
 
 #[test]
-fn other_words_are_wrong(rt: HostRuntime) -> Result<(), Fail> {
+fn other_words_are_wrong(rt: HostRuntime) {
     let packets = [
         section_of(0x00, 0, &PAT),
         section_of(0x64, 0, &PMT),
@@ -398,10 +389,9 @@ fn other_words_are_wrong(rt: HostRuntime) -> Result<(), Fail> {
         "mux 5 in.ts out.ts",
     ];
     for text in rows {
-        let taken = run(rt.alloc(), text, &packets, &[], 188, [0; 3])?;
+        let taken = run(rt.alloc(), text, &packets, &[], 188, [0; 3]).expect(&rt, "memory");
         same(&rt, taken.status, ToolStatus::Usage);
         same(&rt, taken.notes.written(), b"usage\n".as_slice());
         same(&rt, taken.out.written(), b"".as_slice());
     }
-    Ok(())
 }

@@ -5,7 +5,8 @@ use crate::same::same;
 use samples::streams::set_packet;
 use samples::words_of;
 use std::alloc::Global;
-use std::test::Fail;
+use std::panic::Expect;
+use std::process::Abort;
 use std::thread::Threads;
 use stream_report::{ReportFault, pictures_top};
 use stream_syntax::PacketFault;
@@ -51,19 +52,19 @@ struct Outcome {
 
 /// Carries out `pictures` over packets and more bytes, where the source and the sink fail at the
 /// calls of these numbers.
-fn run<R: Threads + Sync>(
+fn run<R: Threads + Sync + Abort>(
     rt: &R,
     alloc: Global,
     text: &str,
     packets: &[[u8; 188]],
     more: &[u8],
     failing: [u64; 2],
-) -> Result<Outcome, Fail> {
+) -> Outcome {
     let [bad_read, bad_write] = failing;
-    let words = words_of(alloc, text)?;
-    let mut stream = stream_of(alloc, packets, more, 100, bad_read)?;
-    let mut out = sink_of(alloc, bad_write)?;
-    let mut notes = sink_of(alloc, 0)?;
+    let words = words_of(alloc, text).expect(rt, "memory");
+    let mut stream = stream_of(alloc, packets, more, 100, bad_read).expect(rt, "memory");
+    let mut out = sink_of(alloc, bad_write).expect(rt, "memory");
+    let mut notes = sink_of(alloc, 0).expect(rt, "memory");
     let status = pictures_top(
         rt,
         alloc,
@@ -73,7 +74,7 @@ fn run<R: Threads + Sync>(
         &mut notes,
         &NoGate,
     );
-    Ok(Outcome { status, out, notes })
+    Outcome { status, out, notes }
 }
 
 /// Two packets, and the text of what is shown of them.
@@ -86,7 +87,7 @@ struct Row {
 /// The times of sets and of time-outs, by hand: the picture of FILLED is timed out 1,080,000 ticks
 /// behind its time.
 #[test]
-fn pictures_of_two_sets(rt: HostRuntime) -> Result<(), Fail> {
+fn pictures_of_two_sets(rt: HostRuntime) {
     let alloc = rt.alloc();
     let rows = [
         // The next set comes first.
@@ -158,21 +159,20 @@ fn pictures_of_two_sets(rt: HostRuntime) -> Result<(), Fail> {
         },
     ];
     for row in &rows {
-        let told = run(&rt, alloc, PICTURES, &row.packets, &[], [0, 0])?;
+        let told = run(&rt, alloc, PICTURES, &row.packets, &[], [0, 0]);
         same(&rt, told.status, ToolStatus::Done);
         same(&rt, told.notes.written(), b"done\n".as_slice());
         same(&rt, told.out.written(), row.text.as_bytes());
     }
-    Ok(())
 }
 
 /// A packet without the sync byte ends the telling, and no time-out is told that did not come.
 #[test]
-fn what_ends_the_telling(rt: HostRuntime) -> Result<(), Fail> {
+fn what_ends_the_telling(rt: HostRuntime) {
     let alloc = rt.alloc();
     let first = set_packet(0, 90_000, &FILLED);
     let shown = "picture 90000 4 2\n4*51F05AC0\n4*51F05AC0\n";
-    let refused = run(&rt, alloc, PICTURES, &[first, [0; 188]], &[], [0, 0])?;
+    let refused = run(&rt, alloc, PICTURES, &[first, [0; 188]], &[], [0, 0]);
     same(
         &rt,
         refused.status,
@@ -183,21 +183,20 @@ fn what_ends_the_telling(rt: HostRuntime) -> Result<(), Fail> {
     );
     same(&rt, refused.notes.written(), b"refused Stream\n".as_slice());
     same(&rt, refused.out.written(), shown.as_bytes());
-    let cut = run(&rt, alloc, PICTURES, &[first], &[0x47; 9], [0, 0])?;
+    let cut = run(&rt, alloc, PICTURES, &[first], &[0x47; 9], [0, 0]);
     same(&rt, cut.status, ToolStatus::Done);
-    let unread = run(&rt, alloc, PICTURES, &[first], &[], [2, 0])?;
+    let unread = run(&rt, alloc, PICTURES, &[first], &[], [2, 0]);
     same(&rt, unread.status, ToolStatus::ReadFault(Which::First));
-    let unwritten = run(&rt, alloc, PICTURES, &[first], &[], [0, 1])?;
+    let unwritten = run(&rt, alloc, PICTURES, &[first], &[], [0, 1]);
     same(&rt, unwritten.status, ToolStatus::WriteFault(Which::Out));
-    let none = run(&rt, alloc, PICTURES, &[], &[], [0, 0])?;
+    let none = run(&rt, alloc, PICTURES, &[], &[], [0, 0]);
     same(&rt, none.status, ToolStatus::Done);
     same(&rt, none.out.written().len(), 0);
-    Ok(())
 }
 
 /// Words that are no command.
 #[test]
-fn words_that_are_refused(rt: HostRuntime) -> Result<(), Fail> {
+fn words_that_are_refused(rt: HostRuntime) {
     let alloc = rt.alloc();
     for text in [
         "pictures sd 256 1 0 stream.ts pictures.txt",
@@ -210,9 +209,8 @@ fn words_that_are_refused(rt: HostRuntime) -> Result<(), Fail> {
         "picture sd 256 1 2 stream.ts pictures.txt",
         "pictures sd 256 1 2 -stream.ts pictures.txt",
     ] {
-        let usage = run(&rt, alloc, text, &[], &[], [1, 1])?;
+        let usage = run(&rt, alloc, text, &[], &[], [1, 1]);
         same(&rt, usage.status, ToolStatus::Usage);
         same(&rt, usage.notes.written(), b"usage\n".as_slice());
     }
-    Ok(())
 }
