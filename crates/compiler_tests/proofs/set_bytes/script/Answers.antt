@@ -12,7 +12,8 @@ script_of-requires g c =
     let one = c.four_pixels-solid.ensures.sides in
     let two = c.four_pixels-through.ensures.sides in
     let epoch = subst (λ r. IfOk r (λ e. e ≡ sample)) c.expect.ensures c.sample_epoch.ensures in
-    let epochs = subst (λ r. IfOk r (λ v. v.items ≡ c.expect.result ∷ [])) c.expect-epochs.ensures c.vec.ensures.items in
+    let epochs =
+    subst (λ r. IfOk r (λ v. v.items ≡ c.expect.result ∷ [])) c.expect-epochs.ensures c.vec.ensures.items in
     let pictures =
     subst (λ r. IfOk r (λ v. v.items ≡ solid ∷ through ∷ [])) c.expect-pictures.ensures c.vec-2.ensures.items in
     sample_sound solid through c.expect-epochs.result.items c.expect-pictures.result.items
