@@ -312,14 +312,15 @@ fn other_words_are_no_dump(rt: HostRuntime) {
 
 /// The text of the picture of the usual encoder's unit: two pixels in a corner of a display of 720
 /// by 576.
-fn encoder_picture(alloc: Global, title: &str) -> Result<String, NoMemory> {
+fn encoder_picture<R: Abort>(rt: &R, alloc: Global, title: &str) -> String {
     let mut text = String::new(alloc);
-    text.push_str(title)?;
-    text.push_str("1*EB808000 1*7E808000 718*000000FF\n")?;
+    text.push_str(title).expect(rt, "memory");
+    text.push_str("1*EB808000 1*7E808000 718*000000FF\n")
+        .expect(rt, "memory");
     for _ in 1..576 {
-        text.push_str("720*000000FF\n")?;
+        text.push_str("720*000000FF\n").expect(rt, "memory");
     }
-    Ok(text)
+    text
 }
 
 /// It stands for ten seconds.
@@ -327,8 +328,8 @@ fn encoder_picture(alloc: Global, title: &str) -> Result<String, NoMemory> {
 fn a_usual_encoder_is_shown(rt: HostRuntime) {
     let alloc = rt.alloc();
     let stream = packet_of(&ENCODER_HEAD, &ENCODER_UNIT);
-    let mut text = encoder_picture(alloc, "picture 90000 720 576\n").expect(&rt, "memory");
-    let later = encoder_picture(alloc, "picture 989999 720 576\n").expect(&rt, "memory");
+    let mut text = encoder_picture(&rt, alloc, "picture 90000 720 576\n");
+    let later = encoder_picture(&rt, alloc, "picture 989999 720 576\n");
     text.push_str(later.as_str()).expect(&rt, "memory");
     text.push_str("picture 990000 clear\n")
         .expect(&rt, "memory");
@@ -364,10 +365,10 @@ pub(crate) fn four_sets(alloc: Global) -> Result<Vec<u8>, NoMemory> {
 fn a_broken_set_is_clear(rt: HostRuntime) {
     let alloc = rt.alloc();
     let stream = four_sets(alloc).expect(&rt, "memory");
-    let mut text = encoder_picture(alloc, "picture 90000 720 576\n").expect(&rt, "memory");
+    let mut text = encoder_picture(&rt, alloc, "picture 90000 720 576\n");
     text.push_str("picture 180000 clear\npicture 270000 clear\n")
         .expect(&rt, "memory");
-    let last = encoder_picture(alloc, "picture 360000 720 576\n").expect(&rt, "memory");
+    let last = encoder_picture(&rt, alloc, "picture 360000 720 576\n");
     text.push_str(last.as_str()).expect(&rt, "memory");
     let line = "dump sd 256 1 2 in.ts out.txt 90000 180000 270000 360000";
     are_told(

@@ -6,7 +6,7 @@ use generated_script::generate;
 use std::alloc::Global;
 use std::panic::Expect;
 use std::process::Abort;
-use sub_base::{Depth, NoMemory};
+use sub_base::Depth;
 
 /// What is wanted of a script: how many epochs and pictures it has, where its last epoch starts and
 /// in which record, how many cues that epoch has, its last cue, and the codes in the four corners
@@ -148,16 +148,11 @@ fn check_corners<R: Abort>(rt: &R, codes: &[u8], wanted: &[u8; 4]) {
 }
 
 /// The script of so many cues is as wanted.
-fn check_script<R: Abort>(
-    rt: &R,
-    alloc: Global,
-    number: u64,
-    wanted: &Wanted,
-) -> Result<(), NoMemory>
+fn check_script<R: Abort>(rt: &R, alloc: Global, number: u64, wanted: &Wanted)
     requires some { 1 ≤ number }
     requires few { number ≤ 500 }
 {
-    let script = generate(alloc, number)?;
+    let script = generate(alloc, number).expect(rt, "memory");
     same(rt, (script.origin, script.refresh), (0, 450_000));
     same(rt, (script.width, script.height), (320, 180));
     same(rt, script.epochs.len(), wanted.epochs);
@@ -178,15 +173,14 @@ fn check_script<R: Abort>(
     };
     same(rt, (picture.width(), picture.height()), (64, 32));
     check_corners(rt, picture.codes(), &wanted.corners);
-    Ok(())
 }
 
 #[test]
 fn last_cues_of_scripts(rt: HostRuntime) {
     let alloc = rt.alloc();
-    check_script(&rt, alloc, 1, &OF_ONE).expect(&rt, "memory");
-    check_script(&rt, alloc, 14, &OF_FOURTEEN).expect(&rt, "memory");
-    check_script(&rt, alloc, 16, &OF_SIXTEEN).expect(&rt, "memory");
-    check_script(&rt, alloc, 17, &OF_SEVENTEEN).expect(&rt, "memory");
-    check_script(&rt, alloc, 500, &OF_FIVE_HUNDRED).expect(&rt, "memory");
+    check_script(&rt, alloc, 1, &OF_ONE);
+    check_script(&rt, alloc, 14, &OF_FOURTEEN);
+    check_script(&rt, alloc, 16, &OF_SIXTEEN);
+    check_script(&rt, alloc, 17, &OF_SEVENTEEN);
+    check_script(&rt, alloc, 500, &OF_FIVE_HUNDRED);
 }

@@ -10,21 +10,23 @@ use refusal_text::{
 use schedule::ScheduleFault;
 use std::alloc::Global;
 use std::panic::Expect;
+use std::process::Abort;
 use stream_syntax::PacketFault;
-use sub_base::{NoMemory, Profile, ProfileName, Words};
+use sub_base::{Profile, ProfileName, Words};
 
 /// Whether the sentence on a script that has these records behind the head ends with that text.
-fn ends(
+fn ends<R: Abort>(
+    rt: &R,
     alloc: Global,
     records: &str,
     row: u64,
     kind: ScriptKind,
     wanted: &str,
-) -> Result<bool, NoMemory> {
-    let script = format!(in alloc; "{PICTURE_HEAD}{records}\n")?;
+) -> bool {
+    let script = format!(in alloc; "{PICTURE_HEAD}{records}\n").expect(rt, "memory");
     let script = Some(script.as_str().as_bytes());
-    let told = script_refusal(alloc, script, Some(FONT), row, kind)?;
-    Ok(told.as_bytes().ends_with(wanted.as_bytes()))
+    let told = script_refusal(alloc, script, Some(FONT), row, kind).expect(rt, "memory");
+    told.as_bytes().ends_with(wanted.as_bytes())
 }
 
 /// A record is quoted as it stands, and then comes what is asked of it.
@@ -119,7 +121,7 @@ fn faults_of_cells_are_told(rt: HostRuntime) {
         ),
     ];
     for (record, kind, wanted) in cases {
-        assert!(rt; ends(rt.alloc(), record, 7, kind, wanted).expect(&rt, "memory"));
+        assert!(rt; ends(&rt, rt.alloc(), record, 7, kind, wanted));
     }
 }
 
@@ -168,7 +170,7 @@ fn faults_of_places_are_told(rt: HostRuntime) {
         ),
     ];
     for (record, kind, wanted) in cases {
-        assert!(rt; ends(rt.alloc(), record, 7, kind, wanted).expect(&rt, "memory"));
+        assert!(rt; ends(&rt, rt.alloc(), record, 7, kind, wanted));
     }
 }
 
@@ -202,11 +204,11 @@ fn faults_of_times_are_told(rt: HostRuntime) {
         ),
     ];
     for (record, kind, wanted) in cases {
-        assert!(rt; ends(rt.alloc(), record, 7, kind, wanted).expect(&rt, "memory"));
+        assert!(rt; ends(&rt, rt.alloc(), record, 7, kind, wanted));
     }
     let two = "place,90000,180000,0,0,0,solid,a\nepoch,179999";
     let wanted = "; the epoch of record 4 starts at 90000, and record 7 reaches to 180000";
-    assert!(rt; ends(rt.alloc(), two, 8, ScriptKind::OutsideEpoch, wanted).expect(&rt, "memory"));
+    assert!(rt; ends(&rt, rt.alloc(), two, 8, ScriptKind::OutsideEpoch, wanted));
 }
 
 /// Which limit it is stands in the sentence.
@@ -219,7 +221,7 @@ fn limits_are_told(rt: HostRuntime) {
         ("cue,1", "all pictures and set texts together"),
     ];
     for (record, wanted) in cases {
-        assert!(rt; ends(rt.alloc(), record, 7, ScriptKind::TooMany, wanted).expect(&rt, "memory"));
+        assert!(rt; ends(&rt, rt.alloc(), record, 7, ScriptKind::TooMany, wanted));
     }
 }
 

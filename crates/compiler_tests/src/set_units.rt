@@ -10,46 +10,57 @@ use set_coder::{KeptBlocks, load_of, size_of, write_set};
 use std::alloc::Global;
 use std::panic::Expect;
 use std::process::Abort;
-use sub_base::{NoMemory, Profile, ProfileName, UNIT_ROOM};
+use sub_base::{Profile, ProfileName, UNIT_ROOM};
 
 /// Appends the record of a picture whose two codes change from pixel to pixel. The string of each
 /// of its rows has a byte for each pixel and two for its end, and stands between two bytes; no two
 /// neighbouring rows are equal.
-fn append_picture(
+fn append_picture<R: Abort>(
+    rt: &R,
     alloc: Global,
     text: &mut String,
     name: &str,
     width: u16,
     height: u16,
-) -> Result<(), NoMemory> {
-    text.push_str(&format!(in alloc; "picture,{name},8,{width},{height},")?)?;
+) {
+    text.push_str(&format!(in alloc; "picture,{name},8,{width},{height},").expect(rt, "memory"))
+        .expect(rt, "memory");
     for y in 0..height {
         for x in 0..width {
-            text.push_str(if x % 2 == y % 2 { "01" } else { "02" })?;
+            text.push_str(if x % 2 == y % 2 { "01" } else { "02" })
+                .expect(rt, "memory");
         }
     }
-    text.push_str("\n")?;
-    Ok(())
+    text.push_str("\n").expect(rt, "memory");
 }
 
 /// A script of normal sets with an object of 65,482, of 65,484 and of 65,614 bytes, and of a mode
 /// change with three objects of 60,014 bytes.
-fn script_text(alloc: Global) -> Result<String, NoMemory> {
+fn script_text<R: Abort>(rt: &R, alloc: Global) -> String {
     let mut text = String::new(alloc);
-    text.push_str("origin,0\ndisplay,1920,1080\nrefresh,60\n")?;
-    text.push_str("epoch,500000\nregion,0,0,0,1920,1080,8,0\n")?;
-    append_picture(alloc, &mut text, "full", 1255, 52)?;
-    append_picture(alloc, &mut text, "over", 325, 199)?;
-    append_picture(alloc, &mut text, "long", 196, 328)?;
-    append_picture(alloc, &mut text, "large", 196, 300)?;
-    text.push_str("place,1400000,1800000,0,0,0,solid,full\n")?;
-    text.push_str("place,2200000,2600000,0,0,0,solid,over\n")?;
-    text.push_str("place,3000000,3400000,0,0,0,solid,long\n")?;
-    text.push_str("epoch,4000000\nregion,0,0,0,1920,1080,8,0\n")?;
-    text.push_str("place,4000000,4400000,0,0,0,solid,large\n")?;
-    text.push_str("place,4000000,4400000,0,200,0,solid,large\n")?;
-    text.push_str("place,4000000,4400000,0,400,0,solid,large\n")?;
-    Ok(text)
+    text.push_str("origin,0\ndisplay,1920,1080\nrefresh,60\n")
+        .expect(rt, "memory");
+    text.push_str("epoch,500000\nregion,0,0,0,1920,1080,8,0\n")
+        .expect(rt, "memory");
+    append_picture(rt, alloc, &mut text, "full", 1255, 52);
+    append_picture(rt, alloc, &mut text, "over", 325, 199);
+    append_picture(rt, alloc, &mut text, "long", 196, 328);
+    append_picture(rt, alloc, &mut text, "large", 196, 300);
+    text.push_str("place,1400000,1800000,0,0,0,solid,full\n")
+        .expect(rt, "memory");
+    text.push_str("place,2200000,2600000,0,0,0,solid,over\n")
+        .expect(rt, "memory");
+    text.push_str("place,3000000,3400000,0,0,0,solid,long\n")
+        .expect(rt, "memory");
+    text.push_str("epoch,4000000\nregion,0,0,0,1920,1080,8,0\n")
+        .expect(rt, "memory");
+    text.push_str("place,4000000,4400000,0,0,0,solid,large\n")
+        .expect(rt, "memory");
+    text.push_str("place,4000000,4400000,0,200,0,solid,large\n")
+        .expect(rt, "memory");
+    text.push_str("place,4000000,4400000,0,400,0,solid,large\n")
+        .expect(rt, "memory");
+    text
 }
 
 /// The lengths of the units of each set of that script, and the bytes of its longest segment: an
@@ -108,7 +119,7 @@ fn sets_of_several_units(rt: HostRuntime) {
     let alloc = rt.alloc();
     let script = Script::read(
         alloc,
-        script_text(alloc).expect(&rt, "memory").as_bytes(),
+        script_text(&rt, alloc).as_bytes(),
         &Font::empty(alloc),
     )
     .expect(&rt, "a script");

@@ -7,7 +7,6 @@ use std::alloc::Global;
 use std::panic::Expect;
 use std::process::Abort;
 use std::thread::Threads;
-use sub_base::NoMemory;
 
 const MUX: &str = "mux 1 100 256 1 eng 2 101 257 7 fre eng.ts fre.ts both.ts";
 
@@ -53,12 +52,12 @@ fn second_packets() -> [[u8; 188]; 2] {
     ]
 }
 
-fn stream_of(alloc: Global, packets: &[[u8; 188]]) -> Result<Vec<u8>, NoMemory> {
+fn stream_of<R: Abort>(rt: &R, alloc: Global, packets: &[[u8; 188]]) -> Vec<u8> {
     let mut stream = Vec::new(alloc);
     for packet in packets {
-        stream.extend_from_slice(packet)?;
+        stream.extend_from_slice(packet).expect(rt, "memory");
     }
-    Ok(stream)
+    stream
 }
 
 /// A table's packet the second time.
@@ -70,10 +69,11 @@ fn again(head: &[u8]) -> [u8; 188] {
 
 /// Both streams in one multiplex: the tables, and two frames of a table, a packet of the first
 /// stream and one of the second.
-fn multiplex(alloc: Global) -> Result<Vec<u8>, NoMemory> {
+fn multiplex<R: Abort>(rt: &R, alloc: Global) -> Vec<u8> {
     let [first, second] = first_packets();
     let [beside_first, beside_second] = second_packets();
     stream_of(
+        rt,
         alloc,
         &[
             packet_of(&PAT, &[]),
@@ -156,26 +156,21 @@ fn each_write_and_note_fails<R: Threads + Sync + Abort>(
 #[test]
 fn each_read_of_two_streams_fails(rt: HostRuntime) {
     let alloc = rt.alloc();
-    let first = stream_of(alloc, &first_packets()).expect(&rt, "memory");
-    let second = stream_of(alloc, &second_packets()).expect(&rt, "memory");
+    let first = stream_of(&rt, alloc, &first_packets());
+    let second = stream_of(&rt, alloc, &second_packets());
     let asked = Asked {
         line: MUX,
         first: first.as_slice(),
         second: second.as_slice(),
     };
-    each_read_fails(
-        &rt,
-        alloc,
-        &asked,
-        multiplex(alloc).expect(&rt, "memory").as_slice(),
-    )
+    each_read_fails(&rt, alloc, &asked, multiplex(&rt, alloc).as_slice())
 }
 
 #[test]
 fn each_read_of_a_multiplex_fails(rt: HostRuntime) {
     let alloc = rt.alloc();
-    let both = multiplex(alloc).expect(&rt, "memory");
-    let first = stream_of(alloc, &first_packets()).expect(&rt, "memory");
+    let both = multiplex(&rt, alloc);
+    let first = stream_of(&rt, alloc, &first_packets());
     each_read_fails(
         &rt,
         alloc,
@@ -187,26 +182,21 @@ fn each_read_of_a_multiplex_fails(rt: HostRuntime) {
 #[test]
 fn each_write_of_a_multiplex_fails(rt: HostRuntime) {
     let alloc = rt.alloc();
-    let first = stream_of(alloc, &first_packets()).expect(&rt, "memory");
-    let second = stream_of(alloc, &second_packets()).expect(&rt, "memory");
+    let first = stream_of(&rt, alloc, &first_packets());
+    let second = stream_of(&rt, alloc, &second_packets());
     let asked = Asked {
         line: MUX,
         first: first.as_slice(),
         second: second.as_slice(),
     };
-    each_write_and_note_fails(
-        &rt,
-        alloc,
-        &asked,
-        multiplex(alloc).expect(&rt, "memory").as_slice(),
-    )
+    each_write_and_note_fails(&rt, alloc, &asked, multiplex(&rt, alloc).as_slice())
 }
 
 #[test]
 fn each_write_of_taken_packets_fails(rt: HostRuntime) {
     let alloc = rt.alloc();
-    let both = multiplex(alloc).expect(&rt, "memory");
-    let first = stream_of(alloc, &first_packets()).expect(&rt, "memory");
+    let both = multiplex(&rt, alloc);
+    let first = stream_of(&rt, alloc, &first_packets());
     each_write_and_note_fails(
         &rt,
         alloc,
@@ -218,26 +208,21 @@ fn each_write_of_taken_packets_fails(rt: HostRuntime) {
 #[test]
 fn memory_of_mux(rt: HostRuntime) {
     let alloc = rt.alloc();
-    let first = stream_of(alloc, &first_packets()).expect(&rt, "memory");
-    let second = stream_of(alloc, &second_packets()).expect(&rt, "memory");
+    let first = stream_of(&rt, alloc, &first_packets());
+    let second = stream_of(&rt, alloc, &second_packets());
     let asked = Asked {
         line: MUX,
         first: first.as_slice(),
         second: second.as_slice(),
     };
-    ends_with_or_without_memory(
-        &rt,
-        alloc,
-        &asked,
-        multiplex(alloc).expect(&rt, "memory").as_slice(),
-    )
+    ends_with_or_without_memory(&rt, alloc, &asked, multiplex(&rt, alloc).as_slice())
 }
 
 #[test]
 fn memory_of_take(rt: HostRuntime) {
     let alloc = rt.alloc();
-    let both = multiplex(alloc).expect(&rt, "memory");
-    let first = stream_of(alloc, &first_packets()).expect(&rt, "memory");
+    let both = multiplex(&rt, alloc);
+    let first = stream_of(&rt, alloc, &first_packets());
     ends_with_or_without_memory(
         &rt,
         alloc,

@@ -1,10 +1,11 @@
+use crate::folder::Folder;
 use crate::same::same;
 use command_files::{carry_out, told};
 use dvbsub_cmd::{Status, Which};
-use std::fs;
-use std::test::Fail;
+use std::alloc::Global;
+use std::panic::Expect;
+use std::process::Abort;
 use std::thread::Threads;
-use std::time::Clock;
 use sub_base::{MemSink, Words};
 
 const SCRIPT: &str = "origin,0\ndisplay,720,576\nrefresh,5\nepoch,90000\nregion,0,0,0,64,32,4,0\n\
@@ -13,36 +14,40 @@ const SCRIPT: &str = "origin,0\ndisplay,720,576\nrefresh,5\nepoch,90000\nregion,
 const FONT: &str = "STARTFONT 2.1\nFONTBOUNDINGBOX 3 4 0 -1\nSTARTCHAR A\nENCODING 65\nDWIDTH 3 0\n\
                     BBX 2 3 0 0\nBITMAP\n40\nC0\n40\nENDCHAR\nENDFONT\n";
 
-/// The code that the program ends with over the words of a line.
-fn code_of_line<T: Threads + Sync>(rt: &HostRuntime, threads: &T, line: &str) -> Result<u8, Fail> {
-    let mut words = Words::make(rt.alloc());
+/// The code that the program ends with over the words of a line, in which `@` is the folder.
+fn code_of_line<T: Threads + Sync + Abort>(
+    files: &HostRuntime,
+    rt: &T,
+    folder: &str,
+    line: &str,
+) -> u8 {
+    let mut words = Words::make(files.alloc());
     for word in line.split(' ') {
-        words.push(word)?;
+        match word.strip_prefix('@') {
+            Some(name) => push_path(rt, files.alloc(), folder, name, &mut words),
+            None => words.push(word).expect(rt, "memory"),
+        }
     }
-    Ok(carry_out(rt, threads, &words))
+    carry_out(files, rt, &words)
 }
 
-/// A folder that no other test has, with a script, its font, and an old output.
-fn folder_of(rt: &HostRuntime, name: &str) -> Result<String, Fail> {
-    let time = rt.since_1970()?;
-    let nanos = time.subsec_nanos();
-    let folder = format!(in rt.alloc(); "/tmp/dvbsub-{name}-{}-{nanos}", time.as_secs())?;
-    fs::create_dir(rt, folder.as_str())?;
+fn push_path<R: Abort>(rt: &R, alloc: Global, folder: &str, name: &str, words: &mut Words) {
+    let path = format!(in alloc; "{folder}{name}").expect(rt, "memory");
+    words.push(path.as_str()).expect(rt, "memory");
+}
+
+/// A folder with a script, its font, and an old output.
+fn folder_of<'a, R: Abort>(files: &'a HostRuntime, rt: &'a R, name: &str) -> Folder<'a, R> {
+    let folder = Folder::make(files, rt, name);
     for (file, text) in [("s", SCRIPT), ("f", FONT), ("old", "old")] {
-        let path = format!(in rt.alloc(); "{}/{file}", folder.as_str())?;
-        fs::write(rt, path.as_str(), text)?;
+        folder.write(file, text.as_bytes());
     }
-    Ok(folder)
-}
-
-fn text_in(rt: &HostRuntime, folder: &str, name: &str) -> Result<String, Fail> {
-    let path = format!(in rt.alloc(); "{folder}/{name}")?;
-    Ok(fs::read_to_string(rt, path.as_str())?)
+    folder
 }
 
 /// Words, and the code that the program ends with.
 #[test]
-fn codes_of_commands_that_fail(rt: HostRuntime) -> Result<(), Fail> {
+fn codes_of_commands_that_fail(rt: HostRuntime) {
     let missing = "list 256 no_such_stream.ts no_such_folder/list.txt";
     let no_folder = "list 256 /dev/null no_such_folder/list.txt";
     let overwriting = "list 256 /dev/null /dev/null";
@@ -55,15 +60,14 @@ fn codes_of_commands_that_fail(rt: HostRuntime) -> Result<(), Fail> {
         (long_script, 8),
     ];
     for (line, code) in cases {
-        same(&rt, code_of_line(&rt, &rt, line)?, code);
+        same(&rt, code_of_line(&rt, &rt, "", line), code);
     }
-    Ok(())
 }
 
 /// A wrong command line brings the table of commands, on standard error and there alone; no other
 /// status does.
 #[test]
-fn the_table_of_commands_is_told(rt: HostRuntime) -> Result<(), Fail> {
+fn the_table_of_commands_is_told(rt: HostRuntime) {
     let alloc = rt.alloc();
     let cases = [
         (
@@ -85,83 +89,55 @@ fn the_table_of_commands_is_told(rt: HostRuntime) -> Result<(), Fail> {
         same(&rt, errors.written(), table.as_bytes());
         same(&rt, out.written(), line.as_bytes());
     }
-    Ok(())
 }
 
 /// The font is read from the file that is named for it, and from no other.
 #[test]
-fn the_font_is_its_own_file(rt: HostRuntime) -> Result<(), Fail> {
-    let folder = folder_of(&rt, "font")?;
-    let f = folder.as_str();
-    let whole = format!(in rt.alloc(); "compile sd 256 1 {f}/s {f}/f {f}/out")?;
-    same(&rt, code_of_line(&rt, &rt, whole.as_str())?, 0);
-    let missing = format!(in rt.alloc(); "compile sd 256 1 {f}/s {f}/none {f}/out")?;
-    same(&rt, code_of_line(&rt, &rt, missing.as_str())?, 5);
-    let long = format!(in rt.alloc(); "compile sd 256 1 {f}/s /dev/zero {f}/out")?;
-    same(&rt, code_of_line(&rt, &rt, long.as_str())?, 8);
-    let script = format!(in rt.alloc(); "compile sd 256 1 {f}/s {f}/s {f}/out")?;
-    same(&rt, code_of_line(&rt, &rt, script.as_str())?, 3);
-    fs::remove_dir_all(&rt, f)?;
-    Ok(())
+fn the_font_is_its_own_file(rt: HostRuntime) {
+    let folder = folder_of(&rt, &rt, "font");
+    let cases = [
+        ("compile sd 256 1 @/s @/f @/out", 0),
+        ("compile sd 256 1 @/s @/none @/out", 5),
+        ("compile sd 256 1 @/s /dev/zero @/out", 8),
+        ("compile sd 256 1 @/s @/s @/out", 3),
+    ];
+    for (line, code) in cases {
+        same(&rt, code_of_line(&rt, &rt, folder.path(), line), code);
+    }
+    folder.remove();
 }
 
 /// A refused command leaves what was there, and no input is overwritten, under any name.
 #[test]
-fn nothing_is_overwritten(rt: HostRuntime) -> Result<(), Fail> {
-    let folder = folder_of(&rt, "kept")?;
-    let f = folder.as_str();
-    let lines = [
-        (
-            format!(in rt.alloc(); "compile sd 256 1 {f}/s none {f}/old")?,
-            3,
-        ),
-        (
-            format!(in rt.alloc(); "compile sd 256 1 {f}/f {f}/f {f}/old")?,
-            3,
-        ),
-        (
-            format!(in rt.alloc(); "compile sd 256 1 {f}/s {f}/none {f}/old")?,
-            5,
-        ),
-        (format!(in rt.alloc(); "list 256 {f}/missing {f}/old")?, 5),
-        (
-            format!(in rt.alloc(); "compile sd 256 1 {f}/s {f}/f {f}/s")?,
-            6,
-        ),
-        (
-            format!(in rt.alloc(); "compile sd 256 1 {f}/s {f}/f {f}/f")?,
-            6,
-        ),
-        (
-            format!(in rt.alloc(); "compile sd 256 1 {f}/s {f}/f {f}/./s")?,
-            6,
-        ),
-        (
-            format!(in rt.alloc(); "compile sd 256 1 {f}/s {f}/f {f}/./f")?,
-            6,
-        ),
+fn nothing_is_overwritten(rt: HostRuntime) {
+    let folder = folder_of(&rt, &rt, "kept");
+    let cases = [
+        ("compile sd 256 1 @/s none @/old", 3),
+        ("compile sd 256 1 @/f @/f @/old", 3),
+        ("compile sd 256 1 @/s @/none @/old", 5),
+        ("list 256 @/missing @/old", 5),
+        ("compile sd 256 1 @/s @/f @/s", 6),
+        ("compile sd 256 1 @/s @/f @/f", 6),
+        ("compile sd 256 1 @/s @/f @/./s", 6),
+        ("compile sd 256 1 @/s @/f @/./f", 6),
     ];
-    for (line, code) in &lines {
-        same(&rt, code_of_line(&rt, &rt, line.as_str())?, *code);
-        same(&rt, text_in(&rt, f, "s")?.as_str(), SCRIPT);
-        same(&rt, text_in(&rt, f, "f")?.as_str(), FONT);
-        same(&rt, text_in(&rt, f, "old")?.as_str(), "old");
+    for (line, code) in cases {
+        same(&rt, code_of_line(&rt, &rt, folder.path(), line), code);
+        same(&rt, folder.text_of("s").as_str(), SCRIPT);
+        same(&rt, folder.text_of("f").as_str(), FONT);
+        same(&rt, folder.text_of("old").as_str(), "old");
     }
-    fs::remove_dir_all(&rt, f)?;
-    Ok(())
+    folder.remove();
 }
 
 /// What was told of a stream before the packet at which it is refused takes the place of what was
 /// there.
 #[test]
-fn what_was_told_is_kept(rt: HostRuntime) -> Result<(), Fail> {
-    let folder = folder_of(&rt, "told")?;
-    let f = folder.as_str();
-    let stream = format!(in rt.alloc(); "{f}/stream")?;
-    fs::write(&rt, stream.as_str(), [0; 188].as_slice())?;
-    let line = format!(in rt.alloc(); "list 256 {f}/stream {f}/old")?;
-    same(&rt, code_of_line(&rt, &rt, line.as_str())?, 4);
-    same(&rt, text_in(&rt, f, "old")?.as_str(), "");
-    fs::remove_dir_all(&rt, f)?;
-    Ok(())
+fn what_was_told_is_kept(rt: HostRuntime) {
+    let folder = folder_of(&rt, &rt, "told");
+    folder.write("stream", &[0; 188]);
+    let line = "list 256 @/stream @/old";
+    same(&rt, code_of_line(&rt, &rt, folder.path(), line), 4);
+    same(&rt, folder.text_of("old").as_str(), "");
+    folder.remove();
 }

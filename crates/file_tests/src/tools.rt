@@ -1,12 +1,12 @@
 use crate::same::same;
 use service_mux::MuxFault;
-use std::test::Fail;
+use std::panic::Expect;
 use sub_base::{MemSink, ToolStatus, Which, Words};
 use tool_files::{carry_out, told};
 
 /// Words, and the code that the program ends with.
 #[test]
-fn codes_of_tools_that_fail(rt: HostRuntime) -> Result<(), Fail> {
+fn codes_of_tools_that_fail(rt: HostRuntime) {
     let missing = "take 1 no_such_stream.ts no_such_folder/out.ts";
     let none_there = "take 1 /dev/null no_such_folder/out.ts";
     let empty = "mux 1 100 256 1 eng 2 101 257 1 fre /dev/null /dev/null no_such_folder/out.ts";
@@ -65,17 +65,16 @@ fn codes_of_tools_that_fail(rt: HostRuntime) -> Result<(), Fail> {
     for (line, code) in cases {
         let mut words = Words::make(rt.alloc());
         for word in line.split(' ') {
-            words.push(word)?;
+            words.push(word).expect(&rt, "memory");
         }
         same(&rt, carry_out(&rt, &rt, &words), code);
     }
-    Ok(())
 }
 
 /// A wrong command line brings the table of tools, on standard error and there alone; no other
 /// status does.
 #[test]
-fn the_table_of_tools_is_told(rt: HostRuntime) -> Result<(), Fail> {
+fn the_table_of_tools_is_told(rt: HostRuntime) {
     let alloc = rt.alloc();
     let cases: [(ToolStatus<MuxFault>, u8, &str, &str); 3] = [
         (
@@ -107,5 +106,4 @@ fn the_table_of_tools_is_told(rt: HostRuntime) -> Result<(), Fail> {
         same(&rt, errors.written(), table.as_bytes());
         same(&rt, out.written(), line.as_bytes());
     }
-    Ok(())
 }

@@ -5,8 +5,8 @@ use crate::same::same;
 use display_sets::{Gathering, Pages, Ready, SetFault, UnitEnd};
 use std::alloc::Global;
 use std::panic::Expect;
+use std::process::Abort;
 use stream_syntax::{SegmentFault, SegmentKind};
-use sub_base::NoMemory;
 
 /// An empty page with the page id 1.
 const PAGE: [u8; 8] = [0x0F, 0x10, 0x00, 0x01, 0x00, 0x02, 0x0A, 0x08];
@@ -187,24 +187,24 @@ fn ends_of_open_sets(rt: HostRuntime) {
 }
 
 /// Whether a segment without a body, of this type and with this page id, counts.
-fn counts(alloc: Global, pages: Pages, page: u8, kind: u8) -> Result<bool, NoMemory> {
-    let mut gathering = Gathering::make(alloc, pages, 20)?;
+fn counts<R: Abort>(rt: &R, alloc: Global, pages: Pages, page: u8, kind: u8) -> bool {
+    let mut gathering = Gathering::make(alloc, pages, 20).expect(rt, "memory");
     let segment = [0x0F, kind, 0x00, page, 0x00, 0x00];
-    Ok(gathering.take_unit(90_000, 25, &segment) == UnitEnd::Taken)
+    gathering.take_unit(90_000, 25, &segment) == UnitEnd::Taken
 }
 
 /// Which types of segments with a page id count: page, region, CLUT, object, display, end, and one
 /// that belongs to no set.
-fn counted(alloc: Global, pages: Pages, page: u8) -> Result<[bool; 7], NoMemory> {
-    Ok([
-        counts(alloc, pages, page, 0x10)?,
-        counts(alloc, pages, page, 0x11)?,
-        counts(alloc, pages, page, 0x12)?,
-        counts(alloc, pages, page, 0x13)?,
-        counts(alloc, pages, page, 0x14)?,
-        counts(alloc, pages, page, 0x80)?,
-        counts(alloc, pages, page, 0x16)?,
-    ])
+fn counted<R: Abort>(rt: &R, alloc: Global, pages: Pages, page: u8) -> [bool; 7] {
+    [
+        counts(rt, alloc, pages, page, 0x10),
+        counts(rt, alloc, pages, page, 0x11),
+        counts(rt, alloc, pages, page, 0x12),
+        counts(rt, alloc, pages, page, 0x13),
+        counts(rt, alloc, pages, page, 0x14),
+        counts(rt, alloc, pages, page, 0x80),
+        counts(rt, alloc, pages, page, 0x16),
+    ]
 }
 
 /// Of a composition page all types of a display set count, of an ancillary page CLUTs and objects,
@@ -218,31 +218,11 @@ fn what_counts_of_which_page(rt: HostRuntime) {
         composition: 1,
         ancillary: 2,
     };
-    same(
-        &rt,
-        counted(rt.alloc(), two, 1).expect(&rt, "memory"),
-        whole,
-    );
-    same(
-        &rt,
-        counted(rt.alloc(), two, 2).expect(&rt, "memory"),
-        shared,
-    );
-    same(
-        &rt,
-        counted(rt.alloc(), two, 3).expect(&rt, "memory"),
-        nothing,
-    );
-    same(
-        &rt,
-        counted(rt.alloc(), Pages::only(2), 2).expect(&rt, "memory"),
-        whole,
-    );
-    same(
-        &rt,
-        counted(rt.alloc(), Pages::only(2), 1).expect(&rt, "memory"),
-        nothing,
-    );
+    same(&rt, counted(&rt, rt.alloc(), two, 1), whole);
+    same(&rt, counted(&rt, rt.alloc(), two, 2), shared);
+    same(&rt, counted(&rt, rt.alloc(), two, 3), nothing);
+    same(&rt, counted(&rt, rt.alloc(), Pages::only(2), 2), whole);
+    same(&rt, counted(&rt, rt.alloc(), Pages::only(2), 1), nothing);
 }
 
 /// The set of one unit with segments of both pages: each segment that counts stands in it once.

@@ -5,7 +5,6 @@ use crate::painted_objects::{TWO_BITS, put_object, put_region};
 use crate::same::{same, same_at};
 use crate::taken_sets::{put, sd_core};
 use page_core::{Core, Scene, SetEnd};
-use std::panic::Expect;
 use std::process::Abort;
 use sub_base::{CLEAR, Colour, Depth};
 
@@ -86,7 +85,7 @@ const PAGE: &[u8] = &[15, 16, 0, 1, 0, 8, 10, 8, 0, 0, 0, 0, 0, 0];
 /// are painted as a string, and the packed row and the row of the picture are looked at.
 #[test]
 fn colours_of_packed_codes(rt: HostRuntime) {
-    let mut core = sd_core(rt.alloc()).expect(&rt, "memory");
+    let mut core = sd_core(&rt, rt.alloc());
     colours_of_packed_codes_in(&rt, &mut core);
 }
 
@@ -159,7 +158,7 @@ const TWO_PLACES: &[u8] = &[
 /// of eight by three pixels has its corner at (3, 2), and, drawn before it, at (2, 2).
 #[test]
 fn rows_of_a_window(rt: HostRuntime) {
-    let mut core = sd_core(rt.alloc()).expect(&rt, "memory");
+    let mut core = sd_core(&rt, rt.alloc());
     rows_of_a_window_in(&rt, &mut core);
 }
 

@@ -110,7 +110,7 @@ const END: &[u8] = &[15, 128, 0, 1, 0, 0];
 /// by its page in an epoch of its own.
 #[test]
 fn segments_of_sets(rt: HostRuntime) {
-    let mut core = sd_core(rt.alloc()).expect(&rt, "memory");
+    let mut core = sd_core(&rt, rt.alloc());
     segments_of_sets_in(&rt, &mut core);
 }
 
@@ -160,7 +160,7 @@ const MORE: &[u8] = &[15, 17, 0, 1, 0, 10, 3, 8, 2, 208, 0, 40, 108, 0, 0, 0];
 /// The first fault of a set by an epoch that has nothing before it.
 #[test]
 fn sets_in_a_new_epoch(rt: HostRuntime) {
-    let mut core = sd_core(rt.alloc()).expect(&rt, "memory");
+    let mut core = sd_core(&rt, rt.alloc());
     sets_in_a_new_epoch_in(&rt, &mut core);
 }
 
@@ -245,7 +245,7 @@ fn nodes_of_sets_in<R: Abort>(rt: &R, core: &mut Core) {
 /// The nodes that CLUT segments leave free: one whose version is known takes none.
 #[test]
 fn nodes_of_cluts(rt: HostRuntime) {
-    let mut core = sd_core(rt.alloc()).expect(&rt, "memory");
+    let mut core = sd_core(&rt, rt.alloc());
     nodes_of_cluts_in(&rt, &mut core);
 }
 
@@ -277,7 +277,7 @@ const NORMAL: &[u8] = &[15, 16, 0, 1, 0, 2, 10, 0];
 /// set with a CLUT of three nodes, which are free again where an epoch begins.
 #[test]
 fn epochs_begin_and_go_on(rt: HostRuntime) {
-    let mut core = sd_core(rt.alloc()).expect(&rt, "memory");
+    let mut core = sd_core(&rt, rt.alloc());
     epochs_begin_and_go_on_in(&rt, &mut core);
 }
 

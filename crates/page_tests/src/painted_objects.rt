@@ -4,7 +4,6 @@ ghost use Rattle.decoder_model.specs.declared.set_end.SetEnd.TheVariants.{Shown}
 use crate::same::same_at;
 use crate::taken_sets::{in_segment, put, sd_core};
 use page_core::{Core, SetEnd};
-use std::panic::Expect;
 use std::process::Abort;
 use stream_syntax::{CodeFault, CodeKind, SegmentKind};
 use sub_base::Depth;
@@ -127,7 +126,7 @@ fn is_painted<R: Abort>(rt: &R, core: &mut Core, pts: u32, case: &Painted<'_>) {
 /// empty: the top block serves for both fields.
 #[test]
 fn strings_of_each_depth(rt: HostRuntime) {
-    let mut core = sd_core(rt.alloc()).expect(&rt, "memory");
+    let mut core = sd_core(&rt, rt.alloc());
     strings_of_each_depth_in(&rt, &mut core);
 }
 
@@ -188,7 +187,7 @@ fn strings_of_each_depth_in<R: Abort>(rt: &R, core: &mut Core) {
 /// Strings that are deeper than the region, in the top block and in the bottom block.
 #[test]
 fn strings_too_deep(rt: HostRuntime) {
-    let mut core = sd_core(rt.alloc()).expect(&rt, "memory");
+    let mut core = sd_core(&rt, rt.alloc());
     strings_too_deep_in(&rt, &mut core);
 }
 
@@ -225,7 +224,7 @@ fn strings_too_deep_in<R: Abort>(rt: &R, core: &mut Core) {
 /// what passes the region.
 #[test]
 fn objects_in_a_region(rt: HostRuntime) {
-    let mut core = sd_core(rt.alloc()).expect(&rt, "memory");
+    let mut core = sd_core(&rt, rt.alloc());
     objects_in_a_region_in(&rt, &mut core);
 }
 

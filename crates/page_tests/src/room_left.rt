@@ -7,7 +7,6 @@ use crate::taken_sets::{
 };
 use decoder_model::{SetEnd, SetFault};
 use page_core::Core;
-use std::panic::Expect;
 use std::process::Abort;
 use sub_base::{CLEAR, Colour};
 
@@ -34,7 +33,7 @@ const SMALL: &[u8] = &[15, 17, 0, 1, 0, 10, 5, 8, 0, 5, 0, 3, 0x24, 0, 0, 0];
 /// none, and all is free behind a set for which it is not enough.
 #[test]
 fn pixels_of_earlier_sets(rt: HostRuntime) {
-    let mut core = sd_core(rt.alloc()).expect(&rt, "memory");
+    let mut core = sd_core(&rt, rt.alloc());
     pixels_of_earlier_sets_in(&rt, &mut core);
 }
 
@@ -110,7 +109,7 @@ fn take_coloured(core: &mut Core, pts: u32, set: Coloured) -> SetEnd {
 /// before them.
 #[test]
 fn nodes_of_earlier_sets(rt: HostRuntime) {
-    let mut core = sd_core(rt.alloc()).expect(&rt, "memory");
+    let mut core = sd_core(&rt, rt.alloc());
     nodes_of_earlier_sets_in(&rt, &mut core);
 }
 
@@ -152,7 +151,7 @@ const CLUT_LAST: &[u8] = &[15, 18, 0, 1, 0, 8, 0, 0xF0, 1, 0x81, 100, 128, 128, 
 /// version 0 does not.
 #[test]
 fn object_versions_go_round(rt: HostRuntime) {
-    let mut core = sd_core(rt.alloc()).expect(&rt, "memory");
+    let mut core = sd_core(&rt, rt.alloc());
     object_versions_go_round_in(&rt, &mut core);
 }
 
@@ -177,7 +176,7 @@ fn object_versions_go_round_in<R: Abort>(rt: &R, core: &mut Core) {
 /// The same for CLUTs.
 #[test]
 fn clut_versions_go_round(rt: HostRuntime) {
-    let mut core = sd_core(rt.alloc()).expect(&rt, "memory");
+    let mut core = sd_core(&rt, rt.alloc());
     clut_versions_go_round_in(&rt, &mut core);
 }
 

@@ -8,7 +8,6 @@ use crate::taken_sets::{
 use decoder_model::{SetEnd, SetFault};
 use page_core::Core;
 use std::alloc::Global;
-use std::panic::Expect;
 use std::process::Abort;
 use stream_syntax::{CodeFault, CodeKind, SegmentKind};
 
@@ -19,7 +18,7 @@ type Row<'a> = (&'a [u8], u32, SegmentKind);
 // fault as well. The place counts from the segment's first byte, and all memory is free behind the
 // set.
 fn are_broken<R: Abort>(rt: &R, alloc: Global, rows: &[Row<'_>]) {
-    let mut core = sd_core(alloc).expect(rt, "memory");
+    let mut core = sd_core(rt, alloc);
     are_broken_in(rt, &mut core, rows);
 }
 
@@ -263,7 +262,7 @@ fn displays(rt: HostRuntime) {
 /// objects and ends may be there again.
 #[test]
 fn twice_in_a_set(rt: HostRuntime) {
-    let mut core = sd_core(rt.alloc()).expect(&rt, "memory");
+    let mut core = sd_core(&rt, rt.alloc());
     twice_in_a_set_in(&rt, &mut core);
 }
 

@@ -8,7 +8,7 @@ use std::alloc::Global;
 use std::panic::Expect;
 use std::process::Abort;
 use stream_syntax::{CodeFault, CodeKind, SegmentFault, SegmentKind};
-use sub_base::{CLEAR, Colour, NoMemory, Profile, ProfileName};
+use sub_base::{CLEAR, Colour, Profile, ProfileName};
 
 // Segments of page 1. Pages: a mode change that lists region 1, the same of state normal, and one
 // of state normal without entries.
@@ -103,8 +103,8 @@ const GREY: Colour = Colour {
 };
 
 // A core for page 1 that was handed nothing.
-pub(crate) fn sd_core(alloc: Global) -> Result<Core, NoMemory> {
-    Ok(Core::make(alloc, &Profile::of(ProfileName::Sd), 1, 0)?)
+pub(crate) fn sd_core<R: Abort>(rt: &R, alloc: Global) -> Core {
+    Core::make(alloc, &Profile::of(ProfileName::Sd), 1, 0).expect(rt, "memory")
 }
 
 // Puts bytes behind those that are there, as far as they have room.
@@ -191,7 +191,7 @@ pub(crate) fn in_segment(place: u32, kind: SegmentKind) -> SetEnd {
 /// what is free.
 #[test]
 fn verdicts(rt: HostRuntime) {
-    let mut core = sd_core(rt.alloc()).expect(&rt, "memory");
+    let mut core = sd_core(&rt, rt.alloc());
     verdicts_in(&rt, &mut core);
 }
 
@@ -313,7 +313,7 @@ fn verdicts_in<R: Abort>(rt: &R, core: &mut Core) {
 /// more is too many.
 #[test]
 fn full_pools(rt: HostRuntime) {
-    let mut core = sd_core(rt.alloc()).expect(&rt, "memory");
+    let mut core = sd_core(&rt, rt.alloc());
     full_pools_in(&rt, &mut core);
 }
 
@@ -339,7 +339,7 @@ fn full_pools_in<R: Abort>(rt: &R, core: &mut Core) {
 /// too deep.
 #[test]
 fn depths(rt: HostRuntime) {
-    let mut core = sd_core(rt.alloc()).expect(&rt, "memory");
+    let mut core = sd_core(&rt, rt.alloc());
     depths_in(&rt, &mut core);
 }
 
@@ -368,7 +368,7 @@ fn depths_in<R: Abort>(rt: &R, core: &mut Core) {
 /// listings are unpainted behind a region's segment; and version 0 comes behind version 15.
 #[test]
 fn versions(rt: HostRuntime) {
-    let mut core = sd_core(rt.alloc()).expect(&rt, "memory");
+    let mut core = sd_core(&rt, rt.alloc());
     versions_in(&rt, &mut core);
 }
 
@@ -399,7 +399,7 @@ fn versions_in<R: Abort>(rt: &R, core: &mut Core) {
 /// display of an epoch stays where a set defines none.
 #[test]
 fn colours_and_displays(rt: HostRuntime) {
-    let mut core = sd_core(rt.alloc()).expect(&rt, "memory");
+    let mut core = sd_core(&rt, rt.alloc());
     colours_and_displays_in(&rt, &mut core);
 }
 

@@ -8,7 +8,7 @@ use std::panic::Expect;
 use std::process::Abort;
 use std::sync::atomic::{AtomicBool, AtomicU32, Ordering};
 use std::thread::Threads;
-use sub_base::{BandGate, CLEAR, Colour, NoGate, NoMemory, Profile, ProfileName};
+use sub_base::{BandGate, CLEAR, Colour, NoGate, Profile, ProfileName};
 
 /// A display of four columns and five rows, of which rows 1 to 3 are filled with code 1 of 8 bits.
 #[rattlefmt::skip]

@@ -13,7 +13,7 @@ use std::panic::Expect;
 use std::process::Abort;
 use std::thread::Threads;
 use stream_syntax::{Event, PAYLOAD_LENGTH};
-use sub_base::{CLEAR, Colour, NoMemory, UNIT_ROOM};
+use sub_base::{CLEAR, Colour, UNIT_ROOM};
 use ts_packets::Packetiser;
 
 /// A display of four columns and two rows.
@@ -94,25 +94,31 @@ fn rest_of(cue: u8) -> [u8; 62] {
 }
 
 /// The segments of a set.
-fn segments_of(alloc: Global, stream: Stream, set: u8) -> Result<Vec<u8>, NoMemory> {
+fn segments_of<R: Abort>(rt: &R, alloc: Global, stream: Stream, set: u8) -> Vec<u8> {
     let mut segments = Vec::new(alloc);
     if stream.has_whole_page(set) {
-        segments.extend_from_slice(&DISPLAY)?;
+        segments.extend_from_slice(&DISPLAY).expect(rt, "memory");
     }
     if set < stream.cues {
-        segments.extend_from_slice(&page_of(stream, set))?;
+        segments
+            .extend_from_slice(&page_of(stream, set))
+            .expect(rt, "memory");
     } else {
-        segments.extend_from_slice(&NO_ENTRIES)?;
+        segments.extend_from_slice(&NO_ENTRIES).expect(rt, "memory");
     }
     if stream.is_long {
-        segments.extend_from_slice(&LONG)?;
-        segments.extend_from_slice(&[0xAA; 400])?;
+        segments.extend_from_slice(&LONG).expect(rt, "memory");
+        segments
+            .extend_from_slice(&[0xAA; 400])
+            .expect(rt, "memory");
     }
     if set < stream.cues {
-        segments.extend_from_slice(&rest_of(set))?;
+        segments
+            .extend_from_slice(&rest_of(set))
+            .expect(rt, "memory");
     }
-    segments.extend_from_slice(&END)?;
-    Ok(segments)
+    segments.extend_from_slice(&END).expect(rt, "memory");
+    segments
 }
 
 /// The packets of a stream from one number on and before another are lost.
@@ -198,12 +204,12 @@ struct Link {
 }
 
 impl Link {
-    fn make(alloc: Global) -> Result<Link, NoMemory> {
-        Ok(Link {
+    fn make<R: Abort>(rt: &R, alloc: Global) -> Link {
+        Link {
             packetiser: Packetiser::make(256),
-            trial: Trial::new(alloc)?,
+            trial: Trial::new(rt, alloc),
             time: 0,
-        })
+        }
     }
 
     /// The PES packet of the next set, a second behind the last one.
@@ -265,7 +271,7 @@ impl Link {
 
     /// Sends a set, the last of whose packets has that number.
     fn send_set<R: Threads + Sync + Abort>(&mut self, rt: &R, alloc: Global, loss: Loss, set: u8) {
-        let segments = segments_of(alloc, loss.stream, set).expect(rt, "memory");
+        let segments = segments_of(rt, alloc, loss.stream, set);
         let unit = self.unit(rt, alloc, &segments);
         let count = loss.stream.packets();
         let mut is_whole = true;
@@ -308,7 +314,7 @@ impl Link {
 #[test]
 fn sets_are_lost(rt: HostRuntime) {
     let alloc = rt.alloc();
-    let mut link = Link::make(alloc).expect(&rt, "memory");
+    let mut link = Link::make(&rt, alloc);
     let stream = Stream {
         cues: 17,
         whole: 5,
@@ -335,7 +341,7 @@ fn sets_are_lost(rt: HostRuntime) {
 #[test]
 fn parts_of_sets_are_lost(rt: HostRuntime) {
     let alloc = rt.alloc();
-    let mut link = Link::make(alloc).expect(&rt, "memory");
+    let mut link = Link::make(&rt, alloc);
     let stream = Stream {
         cues: 7,
         whole: 3,

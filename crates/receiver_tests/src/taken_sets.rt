@@ -42,7 +42,7 @@ const FOLLOWED: Option<Result<Event, PacketFault>> = Some(Ok(Event::Followed));
 
 #[test]
 fn nothing_was_fed(rt: HostRuntime) {
-    let trial = Trial::new(rt.alloc()).expect(&rt, "memory");
+    let trial = Trial::new(&rt, rt.alloc());
     same(&rt, trial.ready(), None);
     same(&rt, trial.ready_at(), None);
     same(&rt, trial.from(), 0);
@@ -53,7 +53,7 @@ fn nothing_was_fed(rt: HostRuntime) {
 /// A set that ends with its packet is ready at once.
 #[test]
 fn set_is_ready_with_its_end(rt: HostRuntime) {
-    let mut trial = Trial::new(rt.alloc()).expect(&rt, "memory");
+    let mut trial = Trial::new(&rt, rt.alloc());
     same(&rt, trial.send(90_000, &FILLED), FOLLOWED);
     same(&rt, trial.ready(), Some(90_000));
     same(&rt, trial.ready_at(), Some(90_000));
@@ -64,7 +64,7 @@ fn set_is_ready_with_its_end(rt: HostRuntime) {
 /// page entry and its region take a node each, and the pixels, of 8 bits, eight bytes.
 #[test]
 fn what_a_set_asks(rt: HostRuntime) {
-    let mut trial = Trial::new(rt.alloc()).expect(&rt, "memory");
+    let mut trial = Trial::new(&rt, rt.alloc());
     same(&rt, trial.show_filled(&rt, 90_000), Some(SetEnd::Shown));
     let load = trial.load();
     same(&rt, (load.pts, load.size, load.painted), (90_000, 64, 1));
@@ -74,7 +74,7 @@ fn what_a_set_asks(rt: HostRuntime) {
 
 #[test]
 fn set_is_shown_from_its_time_on(rt: HostRuntime) {
-    let mut trial = Trial::new(rt.alloc()).expect(&rt, "memory");
+    let mut trial = Trial::new(&rt, rt.alloc());
     same(&rt, trial.show_filled(&rt, 90_000), Some(SetEnd::Shown));
     same(&rt, trial.ready(), None);
     same(&rt, trial.from(), 0);
@@ -85,7 +85,7 @@ fn set_is_shown_from_its_time_on(rt: HostRuntime) {
 /// Up to the time of the next set the one before it is shown.
 #[test]
 fn set_is_shown_up_to_the_next_one(rt: HostRuntime) {
-    let mut trial = Trial::new(rt.alloc()).expect(&rt, "memory");
+    let mut trial = Trial::new(&rt, rt.alloc());
     same(&rt, trial.show_filled(&rt, 90_000), Some(SetEnd::Shown));
     same(&rt, trial.send(180_000, &NORMAL), FOLLOWED);
     same(&rt, trial.take(&rt), Some(SetEnd::Shown));
@@ -98,7 +98,7 @@ fn set_is_shown_up_to_the_next_one(rt: HostRuntime) {
 /// Twelve seconds after its time a set is timed out.
 #[test]
 fn set_is_timed_out(rt: HostRuntime) {
-    let mut trial = Trial::new(rt.alloc()).expect(&rt, "memory");
+    let mut trial = Trial::new(&rt, rt.alloc());
     same(&rt, trial.show_filled(&rt, 90_000), Some(SetEnd::Shown));
     same(&rt, trial.seen_at(1_169_999), Seen::Picture(Some(RED)));
     same(&rt, trial.seen_at(1_170_000), Seen::Clear);
@@ -108,7 +108,7 @@ fn set_is_timed_out(rt: HostRuntime) {
 /// behind it.
 #[test]
 fn set_is_ready_with_another_time(rt: HostRuntime) {
-    let mut trial = Trial::new(rt.alloc()).expect(&rt, "memory");
+    let mut trial = Trial::new(&rt, rt.alloc());
     same(&rt, trial.send(90_000, &OPEN), FOLLOWED);
     same(&rt, trial.ready(), None);
     same(&rt, trial.send(180_000, &FILLED), FOLLOWED);
@@ -121,7 +121,7 @@ fn set_is_ready_with_another_time(rt: HostRuntime) {
 /// The units of one time are one set, of 25 and 23 bytes.
 #[test]
 fn set_of_two_units(rt: HostRuntime) {
-    let mut trial = Trial::new(rt.alloc()).expect(&rt, "memory");
+    let mut trial = Trial::new(&rt, rt.alloc());
     same(&rt, trial.send(90_000, &OPEN), FOLLOWED);
     same(&rt, trial.send(90_000, &END), FOLLOWED);
     same(&rt, trial.take(&rt), Some(SetEnd::Shown));
@@ -130,7 +130,7 @@ fn set_of_two_units(rt: HostRuntime) {
 
 #[test]
 fn set_is_ready_with_the_end_of_the_stream(rt: HostRuntime) {
-    let mut trial = Trial::new(rt.alloc()).expect(&rt, "memory");
+    let mut trial = Trial::new(&rt, rt.alloc());
     same(&rt, trial.send(90_000, &OPEN), FOLLOWED);
     assert!(rt; trial.finish());
     same(&rt, trial.ready(), Some(90_000));
@@ -142,7 +142,7 @@ fn set_is_ready_with_the_end_of_the_stream(rt: HostRuntime) {
 /// waits.
 #[test]
 fn nothing_is_known_behind_a_lost_packet(rt: HostRuntime) {
-    let mut trial = Trial::new(rt.alloc()).expect(&rt, "memory");
+    let mut trial = Trial::new(&rt, rt.alloc());
     same(&rt, trial.show_filled(&rt, 90_000), Some(SetEnd::Shown));
     let _ = trial.next(135_000, &NORMAL);
     same(
@@ -163,7 +163,7 @@ fn nothing_is_known_behind_a_lost_packet(rt: HostRuntime) {
 /// A set in hand is given up with a lost packet.
 #[test]
 fn set_in_hand_is_lost(rt: HostRuntime) {
-    let mut trial = Trial::new(rt.alloc()).expect(&rt, "memory");
+    let mut trial = Trial::new(&rt, rt.alloc());
     same(&rt, trial.send(90_000, &OPEN), FOLLOWED);
     let _ = trial.next(90_000, &END);
     let _ = trial.send(180_000, &OPEN);
@@ -174,7 +174,7 @@ fn set_in_hand_is_lost(rt: HostRuntime) {
 /// A packet that cannot be taken changes nothing: the set in hand goes on behind it.
 #[test]
 fn refused_packet_changes_nothing(rt: HostRuntime) {
-    let mut trial = Trial::new(rt.alloc()).expect(&rt, "memory");
+    let mut trial = Trial::new(&rt, rt.alloc());
     same(&rt, trial.send(90_000, &OPEN), FOLLOWED);
     same(&rt, trial.feed(&[0; 188]), Some(Err(PacketFault::NoSync)));
     same(&rt, trial.arrival().bytes, 25);
@@ -185,7 +185,7 @@ fn refused_packet_changes_nothing(rt: HostRuntime) {
 /// A set that is not later than the last one changes no picture.
 #[test]
 fn set_that_is_not_later(rt: HostRuntime) {
-    let mut trial = Trial::new(rt.alloc()).expect(&rt, "memory");
+    let mut trial = Trial::new(&rt, rt.alloc());
     same(&rt, trial.show_filled(&rt, 90_000), Some(SetEnd::Shown));
     same(&rt, trial.send(45_000, &FILLED), FOLLOWED);
     same(&rt, trial.ready(), Some(45_000));
@@ -202,7 +202,7 @@ fn set_that_is_not_later(rt: HostRuntime) {
 /// What it asks: its time as read, its size, and no painting.
 #[test]
 fn load_of_a_set_that_is_not_later(rt: HostRuntime) {
-    let mut trial = Trial::new(rt.alloc()).expect(&rt, "memory");
+    let mut trial = Trial::new(&rt, rt.alloc());
     same(&rt, trial.show_filled(&rt, 90_000), Some(SetEnd::Shown));
     same(
         &rt,
@@ -216,7 +216,7 @@ fn load_of_a_set_that_is_not_later(rt: HostRuntime) {
 /// A PES packet without a time is a loss.
 #[test]
 fn unit_without_a_time_is_a_loss(rt: HostRuntime) {
-    let mut trial = Trial::new(rt.alloc()).expect(&rt, "memory");
+    let mut trial = Trial::new(&rt, rt.alloc());
     same(&rt, trial.show_filled(&rt, 90_000), Some(SetEnd::Shown));
     let mut packet = trial.next(180_000, &NORMAL);
     packet[164] = 0x00;
@@ -229,7 +229,7 @@ fn unit_without_a_time_is_a_loss(rt: HostRuntime) {
 /// A PES packet of another stream id is passed over.
 #[test]
 fn unit_of_another_stream_is_passed_over(rt: HostRuntime) {
-    let mut trial = Trial::new(rt.alloc()).expect(&rt, "memory");
+    let mut trial = Trial::new(&rt, rt.alloc());
     same(&rt, trial.show_filled(&rt, 90_000), Some(SetEnd::Shown));
     let mut packet = trial.next(180_000, &NORMAL);
     packet[160] = 0xC0;
@@ -243,7 +243,7 @@ fn unit_of_another_stream_is_passed_over(rt: HostRuntime) {
 /// A unit of another page neither counts nor makes the set in hand ready.
 #[test]
 fn unit_of_another_page_does_not_count(rt: HostRuntime) {
-    let mut trial = Trial::new(rt.alloc()).expect(&rt, "memory");
+    let mut trial = Trial::new(&rt, rt.alloc());
     same(&rt, trial.send(90_000, &OPEN), FOLLOWED);
     same(&rt, trial.send(180_000, &OTHER_PAGE), FOLLOWED);
     assert!(rt; trial.arrival().dropped);
@@ -268,13 +268,13 @@ fn clut_of_the_ancillary_page(rt: HostRuntime) {
         Trial::with_ancillary_page(rt.alloc()).expect(&rt, "memory"),
         WHITE,
     );
-    shows_shared(&rt, Trial::new(rt.alloc()).expect(&rt, "memory"), RED);
+    shows_shared(&rt, Trial::new(&rt, rt.alloc()), RED);
 }
 
 /// A packet with the whole of a unit brings its bytes.
 #[test]
 fn bytes_of_a_unit_arrive(rt: HostRuntime) {
-    let mut trial = Trial::new(rt.alloc()).expect(&rt, "memory");
+    let mut trial = Trial::new(&rt, rt.alloc());
     same(&rt, trial.send(90_000, &FILLED), FOLLOWED);
     let arrival = trial.arrival();
     same(
@@ -287,7 +287,7 @@ fn bytes_of_a_unit_arrive(rt: HostRuntime) {
 /// A packet of another PID brings none.
 #[test]
 fn no_bytes_of_another_pid_arrive(rt: HostRuntime) {
-    let mut trial = Trial::new(rt.alloc()).expect(&rt, "memory");
+    let mut trial = Trial::new(&rt, rt.alloc());
     let mut packet = trial.next(90_000, &FILLED);
     packet[2] = 0x01;
     same(&rt, trial.feed(&packet), Some(Ok(Event::Other)));
@@ -302,7 +302,7 @@ fn no_bytes_of_another_pid_arrive(rt: HostRuntime) {
 /// A unit that needs more bytes than there are is dropped behind those that come.
 #[test]
 fn unit_that_is_too_long_is_dropped(rt: HostRuntime) {
-    let mut trial = Trial::new(rt.alloc()).expect(&rt, "memory");
+    let mut trial = Trial::new(&rt, rt.alloc());
     let mut packet = trial.next(90_000, &FILLED);
     packet[128] = 0xF0;
     same(
@@ -324,7 +324,7 @@ fn unit_that_is_too_long_is_dropped(rt: HostRuntime) {
 /// A unit of another time makes the set in hand ready before its bytes.
 #[test]
 fn set_stands_before_bytes_of_another_time(rt: HostRuntime) {
-    let mut trial = Trial::new(rt.alloc()).expect(&rt, "memory");
+    let mut trial = Trial::new(&rt, rt.alloc());
     same(&rt, trial.send(90_000, &OPEN), FOLLOWED);
     same(&rt, trial.send(180_000, &FILLED), FOLLOWED);
     let arrival = trial.arrival();
@@ -338,7 +338,7 @@ fn set_stands_before_bytes_of_another_time(rt: HostRuntime) {
 /// A unit behind the end of its set is dropped.
 #[test]
 fn unit_behind_its_set_is_dropped(rt: HostRuntime) {
-    let mut trial = Trial::new(rt.alloc()).expect(&rt, "memory");
+    let mut trial = Trial::new(&rt, rt.alloc());
     same(&rt, trial.show_filled(&rt, 90_000), Some(SetEnd::Shown));
     same(&rt, trial.send(90_000, &OPEN), FOLLOWED);
     let arrival = trial.arrival();

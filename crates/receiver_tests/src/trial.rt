@@ -3,6 +3,8 @@ use decoder_model::Pages;
 use page_core::SetEnd;
 use receiver::{Arrival, Receiver, View};
 use std::alloc::Global;
+use std::panic::Expect;
+use std::process::Abort;
 use std::thread::Threads;
 use stream_syntax::{Event, PacketFault};
 use sub_base::{Colour, NoGate, NoMemory, Profile, ProfileName, SetLoad};
@@ -26,9 +28,9 @@ pub(crate) struct Trial {
 }
 
 impl Trial {
-    pub(crate) fn new(alloc: Global) -> Result<Trial, NoMemory> {
+    pub(crate) fn new<R: Abort>(rt: &R, alloc: Global) -> Trial {
         let sd = Profile::of(ProfileName::Sd);
-        Ok(Trial::of(Receiver::make(alloc, &sd, 256, 1, 0)?))
+        Trial::of(Receiver::make(alloc, &sd, 256, 1, 0).expect(rt, "memory"))
     }
 
     /// The same with the ancillary page 2.

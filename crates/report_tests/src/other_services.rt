@@ -65,9 +65,9 @@ fn pictures_are_told<R: Threads + Sync + Abort>(rt: &R, alloc: Global, service: 
         rt, "memory",
     );
     let words = words_of(alloc, line.as_str()).expect(rt, "memory");
-    let mut stream = stream_of(alloc, &two_sets(service), &[], 100, 0).expect(rt, "memory");
-    let mut out = sink_of(alloc, 0).expect(rt, "memory");
-    let mut notes = sink_of(alloc, 0).expect(rt, "memory");
+    let mut stream = stream_of(rt, alloc, &two_sets(service), &[], 100, 0);
+    let mut out = sink_of(rt, alloc, 0);
+    let mut notes = sink_of(rt, alloc, 0);
     let told = pictures_top(
         rt,
         alloc,
@@ -89,9 +89,9 @@ fn faults_are_told<R: Abort>(rt: &R, alloc: Global, service: &Service) {
         rt, "memory",
     );
     let words = words_of(alloc, line.as_str()).expect(rt, "memory");
-    let mut stream = stream_of(alloc, &two_sets(service), &[], 100, 0).expect(rt, "memory");
-    let mut out = sink_of(alloc, 0).expect(rt, "memory");
-    let mut notes = sink_of(alloc, 0).expect(rt, "memory");
+    let mut stream = stream_of(rt, alloc, &two_sets(service), &[], 100, 0);
+    let mut out = sink_of(rt, alloc, 0);
+    let mut notes = sink_of(rt, alloc, 0);
     let told = faults_top(alloc, &words, &mut stream, &mut out, &mut notes);
     same(rt, told, ToolStatus::Done);
     let text = "sets 2 shown 2 waiting 0 broken 0 notlater 0 lost 0\n";
@@ -105,9 +105,9 @@ fn levels_are_told<R: Abort>(rt: &R, alloc: Global, service: &Service) {
         rt, "memory",
     );
     let words = words_of(alloc, line.as_str()).expect(rt, "memory");
-    let mut stream = stream_of(alloc, &two_sets(service), &[], 100, 0).expect(rt, "memory");
-    let mut out = sink_of(alloc, 0).expect(rt, "memory");
-    let mut notes = sink_of(alloc, 0).expect(rt, "memory");
+    let mut stream = stream_of(rt, alloc, &two_sets(service), &[], 100, 0);
+    let mut out = sink_of(rt, alloc, 0);
+    let mut notes = sink_of(rt, alloc, 0);
     let told = levels_top(alloc, &words, &mut stream, &mut out, &mut notes);
     same(rt, told, ToolStatus::Done);
     let text = "set 90000 shown 31 31\nset 180000 shown 31 90031\npeak 31\nbreach none\n";

@@ -129,9 +129,9 @@ fn levels_by_the_clock(rt: HostRuntime) {
         let words = words_of(alloc, "levels sd 256 1 pcr stream.ts levels.txt").expect(
             &rt, "memory",
         );
-        let mut stream = stream_of(alloc, &packets, &[], 100, 0).expect(&rt, "memory");
-        let mut out = sink_of(alloc, 0).expect(&rt, "memory");
-        let mut notes = sink_of(alloc, 0).expect(&rt, "memory");
+        let mut stream = stream_of(&rt, alloc, &packets, &[], 100, 0);
+        let mut out = sink_of(&rt, alloc, 0);
+        let mut notes = sink_of(&rt, alloc, 0);
         let status = levels_top(alloc, &words, &mut stream, &mut out, &mut notes);
         same(&rt, status, ToolStatus::Done);
         same(&rt, out.written(), row.text.as_bytes());

@@ -9,7 +9,7 @@ use std::panic::Expect;
 use std::process::Abort;
 use stream_report::{ReportFault, faults_top};
 use stream_syntax::PacketFault;
-use sub_base::{MemSink, NoMemory, ToolStatus, Which};
+use sub_base::{MemSink, ToolStatus, Which};
 
 const FAULTS: &str = "faults sd 256 1 stream.ts faults.txt";
 
@@ -161,20 +161,21 @@ struct Outcome {
 
 /// Carries out `faults` over packets and more bytes, where the source and the sink fail at the
 /// calls of these numbers.
-fn run(
+fn run<R: Abort>(
+    rt: &R,
     alloc: Global,
     text: &str,
     packets: &[[u8; 188]],
     more: &[u8],
     failing: [u64; 2],
-) -> Result<Outcome, NoMemory> {
+) -> Outcome {
     let [bad_read, bad_write] = failing;
-    let words = words_of(alloc, text)?;
-    let mut stream = stream_of(alloc, packets, more, 100, bad_read)?;
-    let mut out = sink_of(alloc, bad_write)?;
-    let mut notes = sink_of(alloc, 0)?;
+    let words = words_of(alloc, text).expect(rt, "memory");
+    let mut stream = stream_of(rt, alloc, packets, more, 100, bad_read);
+    let mut out = sink_of(rt, alloc, bad_write);
+    let mut notes = sink_of(rt, alloc, 0);
     let status = faults_top(alloc, &words, &mut stream, &mut out, &mut notes);
-    Ok(Outcome { status, out, notes })
+    Outcome { status, out, notes }
 }
 
 /// Two packets, and what is told of them.
@@ -187,7 +188,7 @@ struct Row {
 /// Carries out `faults` over the packets of each row.
 fn tell_rows(rt: &impl Abort, alloc: Global, rows: &[Row]) {
     for row in rows {
-        let told = run(alloc, FAULTS, &row.packets, &[], [0, 0]).expect(rt, "memory");
+        let told = run(rt, alloc, FAULTS, &row.packets, &[], [0, 0]);
         same(rt, told.status, ToolStatus::Done);
         same(rt, told.notes.written(), b"done\n".as_slice());
         same(rt, told.out.written(), row.text.as_bytes());
@@ -384,7 +385,7 @@ fn what_ends_the_telling(rt: HostRuntime) {
     let alloc = rt.alloc();
     let first = set_packet(0, 90_000, &NO_PAGE);
     let broken = "set 1 90000 broken NoPage\n";
-    let refused = run(alloc, FAULTS, &[first, [0; 188]], &[], [0, 0]).expect(&rt, "memory");
+    let refused = run(&rt, alloc, FAULTS, &[first, [0; 188]], &[], [0, 0]);
     same(
         &rt,
         refused.status,
@@ -395,11 +396,11 @@ fn what_ends_the_telling(rt: HostRuntime) {
     );
     same(&rt, refused.notes.written(), b"refused Stream\n".as_slice());
     same(&rt, refused.out.written(), broken.as_bytes());
-    let unread = run(alloc, FAULTS, &[first], &[], [2, 0]).expect(&rt, "memory");
+    let unread = run(&rt, alloc, FAULTS, &[first], &[], [2, 0]);
     same(&rt, unread.status, ToolStatus::ReadFault(Which::First));
-    let unwritten = run(alloc, FAULTS, &[first], &[], [0, 1]).expect(&rt, "memory");
+    let unwritten = run(&rt, alloc, FAULTS, &[first], &[], [0, 1]);
     same(&rt, unwritten.status, ToolStatus::WriteFault(Which::Out));
-    let none = run(alloc, FAULTS, &[], &[0x47; 9], [0, 0]).expect(&rt, "memory");
+    let none = run(&rt, alloc, FAULTS, &[], &[0x47; 9], [0, 0]);
     same(&rt, none.status, ToolStatus::Done);
     let nothing = "sets 0 shown 0 waiting 0 broken 0 notlater 0 lost 0\n";
     same(&rt, none.out.written(), nothing.as_bytes());
@@ -418,7 +419,7 @@ fn words_that_are_refused(rt: HostRuntime) {
         "fault sd 256 1 stream.ts faults.txt",
         "faults sd 256 1 -stream.ts faults.txt",
     ] {
-        let usage = run(alloc, text, &[], &[], [1, 1]).expect(&rt, "memory");
+        let usage = run(&rt, alloc, text, &[], &[], [1, 1]);
         same(&rt, usage.status, ToolStatus::Usage);
         same(&rt, usage.notes.written(), b"usage\n".as_slice());
     }

@@ -6,9 +6,10 @@ use samples::streams::set_packet;
 use samples::words_of;
 use std::alloc::Global;
 use std::panic::Expect;
+use std::process::Abort;
 use stream_report::{ReportFault, levels_top};
 use stream_syntax::PacketFault;
-use sub_base::{MemSink, NoMemory, ToolStatus, Which};
+use sub_base::{MemSink, ToolStatus, Which};
 
 /// A page without regions that begins an epoch, never timed out. A PES packet of it has 31 bytes.
 const EMPTY: [u8; 14] = [
@@ -38,20 +39,21 @@ struct Outcome {
 
 /// Carries out `levels` over packets and more bytes, where the source and the sink fail at the
 /// calls of these numbers.
-fn run(
+fn run<R: Abort>(
+    rt: &R,
     alloc: Global,
     text: &str,
     packets: &[[u8; 188]],
     more: &[u8],
     failing: [u64; 2],
-) -> Result<Outcome, NoMemory> {
+) -> Outcome {
     let [bad_read, bad_write] = failing;
-    let words = words_of(alloc, text)?;
-    let mut stream = stream_of(alloc, packets, more, 100, bad_read)?;
-    let mut out = sink_of(alloc, bad_write)?;
-    let mut notes = sink_of(alloc, 0)?;
+    let words = words_of(alloc, text).expect(rt, "memory");
+    let mut stream = stream_of(rt, alloc, packets, more, 100, bad_read);
+    let mut out = sink_of(rt, alloc, bad_write);
+    let mut notes = sink_of(rt, alloc, 0);
     let status = levels_top(alloc, &words, &mut stream, &mut out, &mut notes);
-    Ok(Outcome { status, out, notes })
+    Outcome { status, out, notes }
 }
 
 /// A command, three packets, and the text that is told of them.
@@ -146,7 +148,7 @@ fn levels_of_three_packets(rt: HostRuntime) {
         },
     ];
     for row in &rows {
-        let told = run(alloc, row.words, &row.packets, &[], [0, 0]).expect(&rt, "memory");
+        let told = run(&rt, alloc, row.words, &row.packets, &[], [0, 0]);
         same(&rt, told.status, ToolStatus::Done);
         same(&rt, told.notes.written(), b"done\n".as_slice());
         same(&rt, told.out.written(), row.text.as_bytes());
@@ -160,7 +162,7 @@ const LEVELS: &str = "levels sd 256 1 1504000 stream.ts levels.txt";
 fn what_ends_the_telling(rt: HostRuntime) {
     let alloc = rt.alloc();
     let first = set_packet(0, 90_000, &EMPTY);
-    let refused = run(alloc, LEVELS, &[first, [0; 188]], &[], [0, 0]).expect(&rt, "memory");
+    let refused = run(&rt, alloc, LEVELS, &[first, [0; 188]], &[], [0, 0]);
     same(
         &rt,
         refused.status,
@@ -175,13 +177,13 @@ fn what_ends_the_telling(rt: HostRuntime) {
         refused.out.written(),
         b"set 90000 shown 31 31\n".as_slice(),
     );
-    let cut = run(alloc, LEVELS, &[first], &[0x47; 9], [0, 0]).expect(&rt, "memory");
+    let cut = run(&rt, alloc, LEVELS, &[first], &[0x47; 9], [0, 0]);
     same(&rt, cut.status, ToolStatus::Done);
-    let unread = run(alloc, LEVELS, &[first], &[], [2, 0]).expect(&rt, "memory");
+    let unread = run(&rt, alloc, LEVELS, &[first], &[], [2, 0]);
     same(&rt, unread.status, ToolStatus::ReadFault(Which::First));
-    let unwritten = run(alloc, LEVELS, &[first], &[], [0, 1]).expect(&rt, "memory");
+    let unwritten = run(&rt, alloc, LEVELS, &[first], &[], [0, 1]);
     same(&rt, unwritten.status, ToolStatus::WriteFault(Which::Out));
-    let none = run(alloc, LEVELS, &[], &[], [0, 0]).expect(&rt, "memory");
+    let none = run(&rt, alloc, LEVELS, &[], &[], [0, 0]);
     same(&rt, none.status, ToolStatus::Done);
     same(&rt, none.out.written(), b"peak 0\nbreach none\n".as_slice());
 }
@@ -202,7 +204,7 @@ fn words_that_are_refused(rt: HostRuntime) {
         "level sd 256 1 1504000 stream.ts levels.txt",
         "levels sd 256 1 1504000 -stream.ts levels.txt",
     ] {
-        let usage = run(alloc, text, &[], &[], [1, 1]).expect(&rt, "memory");
+        let usage = run(&rt, alloc, text, &[], &[], [1, 1]);
         same(&rt, usage.status, ToolStatus::Usage);
         same(&rt, usage.notes.written(), b"usage\n".as_slice());
     }

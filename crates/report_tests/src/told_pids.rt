@@ -8,9 +8,10 @@ use samples::streams::set_packet;
 use samples::words_of;
 use std::alloc::Global;
 use std::panic::Expect;
+use std::process::Abort;
 use stream_report::{ReportFault, pids_inputs, pids_top};
 use stream_syntax::PacketFault;
-use sub_base::{MemSink, NoMemory, ToolStatus, Which};
+use sub_base::{MemSink, ToolStatus, Which};
 
 const PIDS: &str = "pids stream.ts pids.txt";
 
@@ -66,20 +67,21 @@ struct Outcome {
 
 /// Carries out `pids` over packets and more bytes, where the source and the sink fail at the calls
 /// of these numbers.
-fn run(
+fn run<R: Abort>(
+    rt: &R,
     alloc: Global,
     text: &str,
     packets: &[[u8; 188]],
     more: &[u8],
     failing: [u64; 2],
-) -> Result<Outcome, NoMemory> {
+) -> Outcome {
     let [bad_read, bad_write] = failing;
-    let words = words_of(alloc, text)?;
-    let mut stream = stream_of(alloc, packets, more, 100, bad_read)?;
-    let mut out = sink_of(alloc, bad_write)?;
-    let mut notes = sink_of(alloc, 0)?;
+    let words = words_of(alloc, text).expect(rt, "memory");
+    let mut stream = stream_of(rt, alloc, packets, more, 100, bad_read);
+    let mut out = sink_of(rt, alloc, bad_write);
+    let mut notes = sink_of(rt, alloc, 0);
     let status = pids_top(alloc, &words, &mut stream, &mut out, &mut notes);
-    Ok(Outcome { status, out, notes })
+    Outcome { status, out, notes }
 }
 
 /// Three packets, and what is told of them.
@@ -144,7 +146,7 @@ fn pages_of_each_pid(rt: HostRuntime) {
         },
     ];
     for row in &rows {
-        let told = run(alloc, PIDS, &row.packets, &[], [0, 0]).expect(&rt, "memory");
+        let told = run(&rt, alloc, PIDS, &row.packets, &[], [0, 0]);
         same(&rt, told.status, ToolStatus::Done);
         same(&rt, told.notes.written(), b"done\n".as_slice());
         same(&rt, told.out.written(), row.text.as_bytes());
@@ -157,7 +159,7 @@ fn what_ends_the_telling(rt: HostRuntime) {
     let alloc = rt.alloc();
     let first = packet_of(0, 0, 90_000, &PAGE_ONE);
     let text = "pid 256 units 1 first 90000 last 90000\npage 1 composition 1 ancillary 0\n";
-    let refused = run(alloc, PIDS, &[first, [0; 188], first], &[], [0, 0]).expect(&rt, "memory");
+    let refused = run(&rt, alloc, PIDS, &[first, [0; 188], first], &[], [0, 0]);
     same(
         &rt,
         refused.status,
@@ -169,15 +171,15 @@ fn what_ends_the_telling(rt: HostRuntime) {
     same(&rt, refused.notes.written(), b"refused Stream\n".as_slice());
     same(&rt, refused.out.written(), text.as_bytes());
     // The second read has the end of the first packet.
-    let unread = run(alloc, PIDS, &[first], &[], [3, 0]).expect(&rt, "memory");
+    let unread = run(&rt, alloc, PIDS, &[first], &[], [3, 0]);
     same(&rt, unread.status, ToolStatus::ReadFault(Which::First));
     same(&rt, unread.out.written(), text.as_bytes());
-    let unwritten = run(alloc, PIDS, &[first], &[], [0, 1]).expect(&rt, "memory");
+    let unwritten = run(&rt, alloc, PIDS, &[first], &[], [0, 1]);
     same(&rt, unwritten.status, ToolStatus::WriteFault(Which::Out));
-    let cut = run(alloc, PIDS, &[first], &[0x47; 9], [0, 0]).expect(&rt, "memory");
+    let cut = run(&rt, alloc, PIDS, &[first], &[0x47; 9], [0, 0]);
     same(&rt, cut.status, ToolStatus::Done);
     same(&rt, cut.out.written(), text.as_bytes());
-    let none = run(alloc, PIDS, &[], &[], [0, 0]).expect(&rt, "memory");
+    let none = run(&rt, alloc, PIDS, &[], &[], [0, 0]);
     same(&rt, none.status, ToolStatus::Done);
     same(&rt, none.out.written().len(), 0);
 }
@@ -198,7 +200,7 @@ fn more_pages_than_are_told(rt: HostRuntime) {
             .push(packet_of(0, number % 16, 1, &composition_of(69 - number)))
             .expect(&rt, "memory");
     }
-    let told = run(alloc, PIDS, packets.as_slice(), &[], [0, 0]).expect(&rt, "memory");
+    let told = run(&rt, alloc, PIDS, packets.as_slice(), &[], [0, 0]);
     same(&rt, told.status, ToolStatus::Done);
     let text = told.out.written();
     assert!(&rt;
@@ -206,13 +208,13 @@ fn more_pages_than_are_told(rt: HostRuntime) {
     );
     assert!(&rt; text.ends_with(b"page 68 composition 1 ancillary 0\nmore\n"));
     let fewer = run(
+        &rt,
         alloc,
         PIDS,
         packets.as_slice().get(1..).unwrap_or(&[]),
         &[],
         [0, 0],
-    )
-    .expect(&rt, "memory");
+    );
     assert!(&rt;
         fewer
             .out
@@ -231,7 +233,7 @@ fn words_that_are_refused(rt: HostRuntime) {
         "pid stream.ts pids.txt",
         "pids -stream.ts pids.txt",
     ] {
-        let usage = run(alloc, text, &[], &[], [1, 1]).expect(&rt, "memory");
+        let usage = run(&rt, alloc, text, &[], &[], [1, 1]);
         same(&rt, usage.status, ToolStatus::Usage);
         same(&rt, usage.notes.written(), b"usage\n".as_slice());
         same(

@@ -64,7 +64,7 @@ const OTHER_MAP: [u8; 19] = [
 ];
 
 /// A section of a table with that id and body, in force, with its CRC.
-fn section_of(alloc: Global, table: u8, number: u16, body: &[u8]) -> Result<Vec<u8>, NoMemory> {
+fn section_of<R: Abort>(rt: &R, alloc: Global, table: u8, number: u16, body: &[u8]) -> Vec<u8> {
     let length = (body.len() % 4_000) as u16 + 9;
     let [high, low] = [(length / 256) as u8, (length % 256) as u8];
     let [above, below] = [(number / 256) as u8, (number % 256) as u8];
@@ -78,11 +78,13 @@ fn section_of(alloc: Global, table: u8, number: u16, body: &[u8]) -> Result<Vec<
         0,
         0,
     ];
-    let mut section = Vec::from_slice(alloc, &head)?;
-    section.extend_from_slice(body)?;
+    let mut section = Vec::from_slice(alloc, &head).expect(rt, "memory");
+    section.extend_from_slice(body).expect(rt, "memory");
     let crc = crc(&section);
-    section.extend_from_slice(&crc.to_be_bytes())?;
-    Ok(section)
+    section
+        .extend_from_slice(&crc.to_be_bytes())
+        .expect(rt, "memory");
+    section
 }
 
 /// A packet of that PID, below 256, with a piece of a section at its end.
@@ -102,29 +104,29 @@ struct Tables {
 
 impl Tables {
     /// Sends a section on that PID in pieces of so many bytes, the first with that counter.
-    fn send(&mut self, pid: u8, counter: u8, section: &[u8], size: usize) -> Result<(), NoMemory>
+    fn send<R: Abort>(&mut self, rt: &R, pid: u8, counter: u8, section: &[u8], size: usize)
         requires { 1 ≤ size }
     {
-        let mut payload = Vec::from_slice(*self.packets.allocator(), &[0])?;
-        payload.extend_from_slice(section)?;
+        let mut payload = Vec::from_slice(*self.packets.allocator(), &[0]).expect(rt, "memory");
+        payload.extend_from_slice(section).expect(rt, "memory");
         let mut counter = counter;
         let mut starts = true;
         for piece in payload.chunks(size) {
             self.packets
-                .push(piece_packet(pid, starts, counter, piece))?;
+                .push(piece_packet(pid, starts, counter, piece))
+                .expect(rt, "memory");
             counter = counter.wrapping_add(1);
             starts = false;
         }
-        Ok(())
     }
 }
 
 /// That `pids` tells this text of packets.
 fn is_told<R: Abort>(rt: &R, alloc: Global, packets: &[[u8; 188]], text: &[u8]) {
     let words = words_of(alloc, "pids stream.ts pids.txt").expect(rt, "memory");
-    let mut stream = stream_of(alloc, packets, &[], 1_000, 0).expect(rt, "memory");
-    let mut out = sink_of(alloc, 0).expect(rt, "memory");
-    let mut notes = sink_of(alloc, 0).expect(rt, "memory");
+    let mut stream = stream_of(rt, alloc, packets, &[], 1_000, 0);
+    let mut out = sink_of(rt, alloc, 0);
+    let mut notes = sink_of(rt, alloc, 0);
     let status = pids_top(alloc, &words, &mut stream, &mut out, &mut notes);
     same(&rt, status, ToolStatus::Done);
     same(&rt, notes.written(), b"done\n".as_slice());
@@ -139,37 +141,29 @@ fn services_of_tables(rt: HostRuntime) {
     let mut tables = Tables {
         packets: Vec::new(alloc),
     };
-    let other = section_of(alloc, PMT, 1, &OTHER_MAP).expect(&rt, "memory");
-    let one = section_of(alloc, PMT, 1, &MAP_OF_ONE).expect(&rt, "memory");
-    let two = section_of(alloc, PMT, 2, &MAP_OF_TWO).expect(&rt, "memory");
-    let five = section_of(alloc, PMT, 5, &MAP_OF_FIVE).expect(&rt, "memory");
+    let other = section_of(&rt, alloc, PMT, 1, &OTHER_MAP);
+    let one = section_of(&rt, alloc, PMT, 1, &MAP_OF_ONE);
+    let two = section_of(&rt, alloc, PMT, 2, &MAP_OF_TWO);
+    let five = section_of(&rt, alloc, PMT, 5, &MAP_OF_FIVE);
     // A PMT before the PAT is passed over.
-    tables.send(100, 7, &other, 184).expect(&rt, "memory");
+    tables.send(&rt, 100, 7, &other, 184);
     is_told(&rt, alloc, &tables.packets, b"");
-    tables
-        .send(
-            0,
-            0,
-            &section_of(alloc, PAT, 1, &ENTRIES).expect(&rt, "memory"),
-            184,
-        )
-        .expect(&rt, "memory");
+    tables.send(&rt, 0, 0, &section_of(&rt, alloc, PAT, 1, &ENTRIES), 184);
     // Services 1 and 2 on one PID, that of 1 over several packets; none on PID 101.
-    tables.send(101, 0, &other, 184).expect(&rt, "memory");
-    tables.send(100, 8, &one, 30).expect(&rt, "memory");
-    tables.send(100, 3, &two, 184).expect(&rt, "memory");
+    tables.send(&rt, 101, 0, &other, 184);
+    tables.send(&rt, 100, 8, &one, 30);
+    tables.send(&rt, 100, 3, &two, 184);
     // Later tables change nothing, nor does a service that is not looked for on its PID.
-    tables.send(100, 4, &other, 184).expect(&rt, "memory");
-    tables
-        .send(
-            0,
-            1,
-            &section_of(alloc, PAT, 1, &LATER_ENTRIES).expect(&rt, "memory"),
-            184,
-        )
-        .expect(&rt, "memory");
-    tables.send(102, 0, &other, 184).expect(&rt, "memory");
-    tables.send(102, 1, &five, 184).expect(&rt, "memory");
+    tables.send(&rt, 100, 4, &other, 184);
+    tables.send(
+        &rt,
+        0,
+        1,
+        &section_of(&rt, alloc, PAT, 1, &LATER_ENTRIES),
+        184,
+    );
+    tables.send(&rt, 102, 0, &other, 184);
+    tables.send(&rt, 102, 1, &five, 184);
     is_told(
         &rt,
         alloc,
@@ -211,26 +205,17 @@ fn lowest_services(rt: HostRuntime) {
             .extend_from_slice(&[0x00, number, 0xE0, 100 + number])
             .expect(&rt, "memory");
     }
-    tables
-        .send(
-            0,
-            0,
-            &section_of(alloc, PAT, 1, &entries).expect(&rt, "memory"),
-            184,
-        )
-        .expect(&rt, "memory");
+    tables.send(&rt, 0, 0, &section_of(&rt, alloc, PAT, 1, &entries), 184);
     let mut text = Vec::new(alloc);
     for number in 1u8..6 {
         let map = section_of(
+            &rt,
             alloc,
             PMT,
             u16::from(number),
             &full_map(alloc, 4 + number).expect(&rt, "memory"),
-        )
-        .expect(&rt, "memory");
-        tables
-            .send(100 + number, 0, &map, 184)
-            .expect(&rt, "memory");
+        );
+        tables.send(&rt, 100 + number, 0, &map, 184);
         // Four services have 124 entries each, and the fifth, of 124, sixteen more.
         let told = if number < 5 { 124 } else { 16 };
         for _ in 0..told {

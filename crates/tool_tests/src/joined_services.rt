@@ -8,6 +8,7 @@ use samples::words_of;
 use service_mux::{MuxFault, mux_top, take_top};
 use std::alloc::Global;
 use std::panic::Expect;
+use std::process::Abort;
 use sub_base::{MemSink, NoMemory, ToolStatus, Which};
 
 /// The words of a multiplex of the services 1 and 2, with PMTs on the PIDs 100 and 101 and streams
@@ -49,23 +50,24 @@ const NONE_FAILS: Failing = Failing {
 };
 
 /// Carries out the command over these packets, whose sources give at most `most` bytes a read.
-fn run(
+fn run<R: Abort>(
+    rt: &R,
     alloc: Global,
     text: &str,
     first: &[[u8; 188]],
     second: &[[u8; 188]],
     most: usize,
     failing: Failing,
-) -> Result<Outcome, NoMemory>
+) -> Outcome
     requires { 1 ≤ most }
 {
-    let words = words_of(alloc, text)?;
-    let mut first = stream_of(alloc, first, &[], most, failing.first)?;
-    let mut second = stream_of(alloc, second, &[], most, failing.second)?;
-    let mut out = sink_of(alloc, failing.out)?;
-    let mut notes = sink_of(alloc, failing.notes)?;
+    let words = words_of(alloc, text).expect(rt, "memory");
+    let mut first = stream_of(rt, alloc, first, &[], most, failing.first);
+    let mut second = stream_of(rt, alloc, second, &[], most, failing.second);
+    let mut out = sink_of(rt, alloc, failing.out);
+    let mut notes = sink_of(rt, alloc, failing.notes);
     let status = mux_top(alloc, &words, &mut first, &mut second, &mut out, &mut notes);
-    Ok(Outcome { status, out, notes })
+    Outcome { status, out, notes }
 }
 
 /// The PID and the counter of each packet that was written.
@@ -112,14 +114,14 @@ fn a_multiplex_has_tables_and_frames(rt: HostRuntime) {
     for most in [1, 188, 1_000] {
         let alloc = rt.alloc();
         let muxed = run(
+            &rt,
             alloc,
             WORDS,
             &first_packets(),
             &second_packets(),
             most,
             NONE_FAILS,
-        )
-        .expect(&rt, "memory");
+        );
         same(&rt, muxed.status, ToolStatus::Done);
         same(&rt, muxed.notes.written(), b"done\n".as_slice());
         same(
@@ -153,7 +155,7 @@ fn the_longer_stream_is_joined_whole(rt: HostRuntime) {
     let first = [packet_of(256, 0, 1)];
     let second = [packet_of(257, 0, 2), packet_of(257, 1, 3)];
     let alloc = rt.alloc();
-    let muxed = run(alloc, WORDS, &first, &second, 1_000, NONE_FAILS).expect(&rt, "memory");
+    let muxed = run(&rt, alloc, WORDS, &first, &second, 1_000, NONE_FAILS);
     same(&rt, muxed.status, ToolStatus::Done);
     same(
         &rt,
@@ -167,7 +169,7 @@ fn the_longer_stream_is_joined_whole(rt: HostRuntime) {
 fn tables_come_again_each_128_frames(rt: HostRuntime) {
     let alloc = rt.alloc();
     let first = [packet_of(256, 0, 1); 129];
-    let muxed = run(alloc, WORDS, &first, &[], 100_000, NONE_FAILS).expect(&rt, "memory");
+    let muxed = run(&rt, alloc, WORDS, &first, &[], 100_000, NONE_FAILS);
     let heads = heads_of(alloc, &muxed.out).expect(&rt, "memory");
     same(&rt, heads.get(3 + 3 * 126), Some(&(8191, 0)));
     same(&rt, heads.get(3 + 3 * 127), Some(&(8191, 0)));
@@ -179,14 +181,14 @@ fn tables_come_again_each_128_frames(rt: HostRuntime) {
 fn services_are_taken_out_again(rt: HostRuntime) {
     let alloc = rt.alloc();
     let muxed = run(
+        &rt,
         alloc,
         WORDS,
         &first_packets(),
         &second_packets(),
         1_000,
         NONE_FAILS,
-    )
-    .expect(&rt, "memory");
+    );
     let [one, _, three] = first_packets();
     let both = [one, three];
     for (line, wanted) in [
@@ -194,9 +196,9 @@ fn services_are_taken_out_again(rt: HostRuntime) {
         ("take 2 both.ts out.ts", second_packets().as_slice()),
     ] {
         let words = words_of(alloc, line).expect(&rt, "memory");
-        let mut stream = source_of(alloc, muxed.out.written(), 1_000).expect(&rt, "memory");
-        let mut out = sink_of(alloc, 0).expect(&rt, "memory");
-        let mut notes = sink_of(alloc, 0).expect(&rt, "memory");
+        let mut stream = source_of(&rt, alloc, muxed.out.written(), 1_000);
+        let mut out = sink_of(&rt, alloc, 0);
+        let mut notes = sink_of(&rt, alloc, 0);
         let status = take_top(alloc, &words, &mut stream, &mut out, &mut notes);
         same(&rt, status, ToolStatus::Done);
         same(&rt, out.written(), wanted.as_flattened());
@@ -235,9 +237,7 @@ fn packets_without_the_sync_byte_are_refused(rt: HostRuntime) {
         ),
     ];
     for (first, second, status, count, note) in rows {
-        let muxed = run(rt.alloc(), WORDS, &first, &second, 1_000, NONE_FAILS).expect(
-            &rt, "memory",
-        );
+        let muxed = run(&rt, rt.alloc(), WORDS, &first, &second, 1_000, NONE_FAILS);
         same(&rt, muxed.status, status);
         same(&rt, muxed.out.written().len(), 188 * count);
         same(&rt, muxed.notes.written(), note);
@@ -278,14 +278,14 @@ fn failing_sources_and_sinks_are_told(rt: HostRuntime) {
     ];
     for (failing, status) in rows {
         let muxed = run(
+            &rt,
             rt.alloc(),
             WORDS,
             &first_packets(),
             &second_packets(),
             1_000,
             failing,
-        )
-        .expect(&rt, "memory");
+        );
         same(&rt, muxed.status, status);
     }
 }
@@ -310,14 +310,14 @@ fn other_words_are_no_command(rt: HostRuntime) {
     ];
     for line in lines {
         let muxed = run(
+            &rt,
             rt.alloc(),
             line,
             &first_packets(),
             &second_packets(),
             1_000,
             NONE_FAILS,
-        )
-        .expect(&rt, "memory");
+        );
         same(&rt, muxed.status, ToolStatus::Usage);
         same(&rt, muxed.notes.written(), b"usage\n".as_slice());
         same(&rt, muxed.out.written(), b"".as_slice());

@@ -56,7 +56,7 @@ fn mode_changes(rt: HostRuntime) {
     let text = "splice sd 256 1 0 270000 a b o";
     for (packets, count, status) in cases {
         let second = packets.get(..count).unwrap_or(&[]);
-        let joined = join(alloc, text, &first, second, [0; 3]).expect(&rt, "memory");
+        let joined = join(&rt, alloc, text, &first, second, [0; 3]);
         same(&rt, joined.status, status);
     }
 }
@@ -79,7 +79,7 @@ fn packets_with_new_times(rt: HostRuntime) {
         "splice sd 256 1 0 270000 a a o",
         "splice sd 256 1 8589934591 8590204592 a a o",
     ] {
-        let joined = join(alloc, text, &stream, &stream, [0; 3]).expect(&rt, "memory");
+        let joined = join(&rt, alloc, text, &stream, &stream, [0; 3]);
         same_at(&rt, text, joined.status, ToolStatus::Done);
         same_at(&rt, text, joined.out.written(), wanted.as_flattened());
     }

@@ -6,7 +6,8 @@ use samples::words_of;
 use splice::{SpliceFault, splice_top};
 use std::alloc::Global;
 use std::panic::Expect;
-use sub_base::{MemSink, NoMemory, ToolStatus, Which};
+use std::process::Abort;
+use sub_base::{MemSink, ToolStatus, Which};
 
 // Bytes that were worked out by hand from the tables of the standards.
 
@@ -72,21 +73,22 @@ pub(crate) struct Outcome {
 /// Joins the packets of two streams, and some bytes behind each that are no packet, as the words
 /// say; a read of the first and of the second source
 /// and a write fail at these numbers.
-pub(crate) fn join(
+pub(crate) fn join<R: Abort>(
+    rt: &R,
     alloc: Global,
     text: &str,
     first: &[[u8; 188]],
     second: &[[u8; 188]],
     fails: [u64; 3],
-) -> Result<Outcome, NoMemory> {
-    let words = words_of(alloc, text)?;
+) -> Outcome {
+    let words = words_of(alloc, text).expect(rt, "memory");
     let [first_read, second_read, bad_write] = fails;
-    let mut first = stream_of(alloc, first, &[0x47; 100], 100, first_read)?;
-    let mut second = stream_of(alloc, second, &[0x47; 100], 1_000, second_read)?;
-    let mut out = sink_of(alloc, bad_write)?;
-    let mut notes = sink_of(alloc, 0)?;
+    let mut first = stream_of(rt, alloc, first, &[0x47; 100], 100, first_read);
+    let mut second = stream_of(rt, alloc, second, &[0x47; 100], 1_000, second_read);
+    let mut out = sink_of(rt, alloc, bad_write);
+    let mut notes = sink_of(rt, alloc, 0);
     let status = splice_top(alloc, &words, &mut first, &mut second, &mut out, &mut notes);
-    Ok(Outcome { status, out, notes })
+    Outcome { status, out, notes }
 }
 
 /// A stream with itself: the second time its sets come 180000 ticks later, their packets in the
@@ -96,13 +98,13 @@ fn a_stream_with_itself(rt: HostRuntime) {
     let alloc = rt.alloc();
     let stream = picture_stream();
     let joined = join(
+        &rt,
         alloc,
         "splice sd 256 1 0 270000 a a o",
         &stream,
         &stream,
         [0; 3],
-    )
-    .expect(&rt, "memory");
+    );
     same(&rt, joined.status, ToolStatus::Done);
     same(&rt, joined.notes.written(), b"done\n".as_slice());
     let wanted = [
@@ -137,18 +139,18 @@ fn cuts_of_a_stream_with_itself(rt: HostRuntime) {
     ];
     for (text, packets, status, bytes) in cases {
         let second = stream.get(..packets).unwrap_or(&[]);
-        let joined = join(alloc, text, &stream, second, [0; 3]).expect(&rt, "memory");
+        let joined = join(&rt, alloc, text, &stream, second, [0; 3]);
         same_at(&rt, text, joined.status, status);
         same_at(&rt, text, joined.out.written().len(), bytes);
     }
     let alone = join(
+        &rt,
         alloc,
         "splice sd 256 1 0 90000 a a o",
         &stream,
         &stream,
         [0; 3],
-    )
-    .expect(&rt, "memory");
+    );
     let (packets, _) = alone.out.written().as_chunks::<188>();
     for (packet, wanted) in packets.iter().zip(&stream) {
         same(&rt, packet.as_slice(), wanted.as_slice());
@@ -179,23 +181,23 @@ fn streams_that_are_not_joined(rt: HostRuntime) {
         (&good, &good, [0, 0, 1], "write out\n"),
     ];
     for (one, two, fails, note) in cases {
-        let joined = join(alloc, text, one, two, fails).expect(&rt, "memory");
+        let joined = join(&rt, alloc, text, one, two, fails);
         same_at(&rt, note, joined.notes.written(), note.as_bytes());
         same_at(&rt, note, joined.out.written().len(), 0);
     }
-    let refused = join(alloc, text, &lossy, &good, [0; 3]).expect(&rt, "memory");
+    let refused = join(&rt, alloc, text, &lossy, &good, [0; 3]);
     let fault = SpliceFault::Lost {
         second: false,
         packet: 1,
     };
     same(&rt, refused.status, ToolStatus::Refused(fault));
-    let refused = join(alloc, text, &good, &bad, [0; 3]).expect(&rt, "memory");
+    let refused = join(&rt, alloc, text, &good, &bad, [0; 3]);
     let fault = SpliceFault::Packet {
         second: true,
         packet: 1,
         fault: stream_syntax::PacketFault::NoSync,
     };
     same(&rt, refused.status, ToolStatus::Refused(fault));
-    let failed = join(alloc, text, &good, &good, [0, 0, 1]).expect(&rt, "memory");
+    let failed = join(&rt, alloc, text, &good, &good, [0, 0, 1]);
     same(&rt, failed.status, ToolStatus::WriteFault(Which::Out));
 }

@@ -11,7 +11,8 @@ use samples::words_of;
 use script_stream::compile_script;
 use std::alloc::Global;
 use std::panic::Expect;
-use sub_base::{MemSink, MemSource, NoMemory, ProfileName, ToolStatus, Which};
+use std::process::Abort;
+use sub_base::{MemSink, MemSource, ProfileName, ToolStatus, Which};
 
 const LIVE: &str = "live sd 256 1 script.csv none out.ts";
 
@@ -56,36 +57,37 @@ struct Outcome {
 
 /// Carries out the command over these two sources, where the output and the notes fail at the calls
 /// of these numbers; 0 for none.
-fn run(
+fn run<R: Abort>(
+    rt: &R,
     alloc: Global,
     first: &mut MemSource,
     bad_write: u64,
     bad_line: u64,
-) -> Result<Outcome, NoMemory> {
-    let words = words_of(alloc, LIVE)?;
-    let mut second = source_of(alloc, &[], 1)?;
-    let mut out = sink_of(alloc, bad_write)?;
-    let mut notes = sink_of(alloc, bad_line)?;
+) -> Outcome {
+    let words = words_of(alloc, LIVE).expect(rt, "memory");
+    let mut second = source_of(rt, alloc, &[], 1);
+    let mut out = sink_of(rt, alloc, bad_write);
+    let mut notes = sink_of(rt, alloc, bad_line);
     let status = live_top(alloc, &words, first, &mut second, &mut out, &mut notes);
-    Ok(Outcome { status, out, notes })
+    Outcome { status, out, notes }
 }
 
 /// The same over a text that is read in pieces of so many bytes, with no call that fails.
-fn run_of(alloc: Global, text: &str, most: usize) -> Result<Outcome, NoMemory>
+fn run_of<R: Abort>(rt: &R, alloc: Global, text: &str, most: usize) -> Outcome
     requires { 1 ≤ most }
 {
-    let mut first = source_of(alloc, text.as_bytes(), most)?;
-    run(alloc, &mut first, 0, 0)
+    let mut first = source_of(rt, alloc, text.as_bytes(), most);
+    run(rt, alloc, &mut first, 0, 0)
 }
 
 /// The packets that the compiler makes of a script.
-fn compiled(alloc: Global, text: &str) -> Result<MemSink, NoMemory> {
+fn compiled<R: Abort>(rt: &R, alloc: Global, text: &str) -> MemSink {
     let font = Font::empty(alloc);
-    let mut out = sink_of(alloc, 0)?;
+    let mut out = sink_of(rt, alloc, 0);
     if let Ok(script) = Script::read(alloc, text.as_bytes(), &font) {
         let _ = compile_script(alloc, ProfileName::Sd, 256, 1, &script, &mut out);
     }
-    Ok(out)
+    out
 }
 
 /// A record on the horizon is refused, and one a tick above it accepted; what is written is what
@@ -93,10 +95,10 @@ fn compiled(alloc: Global, text: &str) -> Result<MemSink, NoMemory> {
 #[test]
 fn records_at_the_horizon(rt: HostRuntime) {
     let alloc = rt.alloc();
-    let accepted = compiled(alloc, ACCEPTED).expect(&rt, "memory");
+    let accepted = compiled(&rt, alloc, ACCEPTED);
     same(&rt, accepted.written().is_empty(), false);
     for most in [1, 100, 4_096, 100_000] {
-        let told = run_of(alloc, AT_THE_HORIZON, most).expect(&rt, "memory");
+        let told = run_of(&rt, alloc, AT_THE_HORIZON, most);
         same(&rt, told.status, ToolStatus::Done);
         same(
             &rt,
@@ -113,7 +115,7 @@ fn what_is_due_is_there(rt: HostRuntime) {
     let alloc = rt.alloc();
     let text = Vec::from_slice(alloc, UP_TO_A_TICK.as_bytes()).expect(&rt, "memory");
     let mut first = MemSource::make(alloc, text, 4_096, vec![in alloc; 2].expect(&rt, "memory"));
-    let told = run(alloc, &mut first, 0, 0).expect(&rt, "memory");
+    let told = run(&rt, alloc, &mut first, 0, 0);
     same(&rt, told.status, ToolStatus::ReadFault(Which::First));
     same(&rt, told.notes.written(), b"read first\n".as_slice());
     let written = told.out.written();
@@ -122,7 +124,7 @@ fn what_is_due_is_there(rt: HostRuntime) {
     same(&rt, before, Some([0x47, 0x1F, 0xFF].as_slice()));
     let first = written.get(FIRST_OF_THE_SET..FIRST_OF_THE_SET + 3);
     same(&rt, first, Some([0x47, 0x41, 0x00].as_slice()));
-    let whole = compiled(alloc, ACCEPTED).expect(&rt, "memory");
+    let whole = compiled(&rt, alloc, ACCEPTED);
     same(&rt, Some(written) == whole.written().get(..DUE), true);
 }
 
@@ -130,7 +132,7 @@ fn what_is_due_is_there(rt: HostRuntime) {
 #[test]
 fn records_that_are_refused(rt: HostRuntime) {
     let alloc = rt.alloc();
-    let told = run_of(alloc, REFUSED, 7).expect(&rt, "memory");
+    let told = run_of(&rt, alloc, REFUSED, 7);
     same(&rt, told.status, ToolStatus::Refused(LiveFault::NoEpoch));
     same(&rt, told.notes.written(), REFUSED_LINES.as_bytes());
     same(&rt, told.out.written().len(), 0);
@@ -140,17 +142,17 @@ fn records_that_are_refused(rt: HostRuntime) {
 #[test]
 fn sinks_that_fail(rt: HostRuntime) {
     let alloc = rt.alloc();
-    let mut script = source_of(alloc, AT_THE_HORIZON.as_bytes(), 100).expect(&rt, "memory");
-    let unwritten = run(alloc, &mut script, 1, 0).expect(&rt, "memory");
+    let mut script = source_of(&rt, alloc, AT_THE_HORIZON.as_bytes(), 100);
+    let unwritten = run(&rt, alloc, &mut script, 1, 0);
     same(&rt, unwritten.status, ToolStatus::WriteFault(Which::Out));
     same(&rt, unwritten.notes.written(), b"write out\n".as_slice());
-    let mut script = source_of(alloc, AT_THE_HORIZON.as_bytes(), 100).expect(&rt, "memory");
-    let untold = run(alloc, &mut script, 0, 1).expect(&rt, "memory");
+    let mut script = source_of(&rt, alloc, AT_THE_HORIZON.as_bytes(), 100);
+    let untold = run(&rt, alloc, &mut script, 0, 1);
     same(&rt, untold.status, ToolStatus::WriteFault(Which::Notes));
     same(&rt, untold.notes.written().len(), 0);
     same(&rt, untold.out.written().len(), DUE);
-    let mut script = source_of(alloc, AT_THE_HORIZON.as_bytes(), 100).expect(&rt, "memory");
-    let at_the_end = run(alloc, &mut script, 0, 2).expect(&rt, "memory");
+    let mut script = source_of(&rt, alloc, AT_THE_HORIZON.as_bytes(), 100);
+    let at_the_end = run(&rt, alloc, &mut script, 0, 2);
     same(&rt, at_the_end.status, ToolStatus::WriteFault(Which::Notes));
     same(
         &rt,

@@ -91,10 +91,10 @@ fn run<R: Threads + Sync + Abort>(
     failing: u64,
 ) -> Outcome {
     let words = words_of(alloc, text).expect(rt, "memory");
-    let mut first = source_of(alloc, first, 100).expect(rt, "memory");
-    let mut second = source_of(alloc, second, 100).expect(rt, "memory");
-    let mut out = sink_of(alloc, failing).expect(rt, "memory");
-    let mut notes = sink_of(alloc, 0).expect(rt, "memory");
+    let mut first = source_of(rt, alloc, first, 100);
+    let mut second = source_of(rt, alloc, second, 100);
+    let mut out = sink_of(rt, alloc, failing);
+    let mut notes = sink_of(rt, alloc, 0);
     let status = pair_top(
         rt,
         alloc,

@@ -3,36 +3,48 @@
 ghost use Rattle.std.specs.Prelude.{◌≤◌};
 
 use std::alloc::Global;
-use sub_base::{MemSink, MemSource, NoMemory};
+use std::panic::Expect;
+use std::process::Abort;
+use sub_base::{MemSink, MemSource};
 
 /// A source of these packets and of some bytes behind them, which gives at most `most` bytes a read
 /// and fails at the read of that number; 0 for none.
-pub(crate) fn stream_of(
+pub(crate) fn stream_of<R: Abort>(
+    rt: &R,
     alloc: Global,
     packets: &[[u8; 188]],
     behind: &[u8],
     most: usize,
     bad_read: u64,
-) -> Result<MemSource, NoMemory>
+) -> MemSource
     requires { 1 ≤ most }
 {
     let mut bytes = Vec::new(alloc);
     for packet in packets {
-        bytes.extend_from_slice(packet)?;
+        bytes.extend_from_slice(packet).expect(rt, "memory");
     }
-    bytes.extend_from_slice(behind)?;
-    Ok(MemSource::make(alloc, bytes, most, vec![in alloc; bad_read]?))
+    bytes.extend_from_slice(behind).expect(rt, "memory");
+    MemSource::make(
+        alloc,
+        bytes,
+        most,
+        vec![in alloc; bad_read].expect(rt, "memory"),
+    )
 }
 
 /// A source of these bytes, none of whose reads fails.
-pub(crate) fn source_of(alloc: Global, bytes: &[u8], most: usize) -> Result<MemSource, NoMemory>
+pub(crate) fn source_of<R: Abort>(rt: &R, alloc: Global, bytes: &[u8], most: usize) -> MemSource
     requires { 1 ≤ most }
 {
-    let bytes = Vec::from_slice(alloc, bytes)?;
-    Ok(MemSource::make(alloc, bytes, most, Vec::new(alloc)))
+    let bytes = Vec::from_slice(alloc, bytes).expect(rt, "memory");
+    MemSource::make(alloc, bytes, most, Vec::new(alloc))
 }
 
 /// A sink that fails at the write of that number; 0 for none.
-pub(crate) fn sink_of(alloc: Global, bad_write: u64) -> Result<MemSink, NoMemory> {
-    Ok(MemSink::make(alloc, 1_000_000, vec![in alloc; bad_write]?))
+pub(crate) fn sink_of<R: Abort>(rt: &R, alloc: Global, bad_write: u64) -> MemSink {
+    MemSink::make(
+        alloc,
+        1_000_000,
+        vec![in alloc; bad_write].expect(rt, "memory"),
+    )
 }

@@ -9,7 +9,7 @@ use service_mux::{TakeFault, take_top};
 use std::alloc::Global;
 use std::panic::Expect;
 use std::process::Abort;
-use sub_base::{MemSink, NoMemory, ToolStatus, Which};
+use sub_base::{MemSink, ToolStatus, Which};
 
 // Sections that were worked out by hand from the tables of the standard, with their CRC.
 
@@ -94,23 +94,24 @@ struct Outcome {
 
 /// Carries out the command over these packets and further bytes, whose source gives at most `most`
 /// bytes a read and fails at the read, the write and the note of these numbers.
-fn run(
+fn run<R: Abort>(
+    rt: &R,
     alloc: Global,
     text: &str,
     packets: &[[u8; 188]],
     further: &[u8],
     most: usize,
     fails: [u64; 3],
-) -> Result<Outcome, NoMemory>
+) -> Outcome
     requires { 1 ≤ most }
 {
     let [bad_read, bad_write, bad_note] = fails;
-    let words = words_of(alloc, text)?;
-    let mut first = stream_of(alloc, packets, further, most, bad_read)?;
-    let mut out = sink_of(alloc, bad_write)?;
-    let mut notes = sink_of(alloc, bad_note)?;
+    let words = words_of(alloc, text).expect(rt, "memory");
+    let mut first = stream_of(rt, alloc, packets, further, most, bad_read);
+    let mut out = sink_of(rt, alloc, bad_write);
+    let mut notes = sink_of(rt, alloc, bad_note);
     let status = take_top(alloc, &words, &mut first, &mut out, &mut notes);
-    Ok(Outcome { status, out, notes })
+    Outcome { status, out, notes }
 }
 
 /// That service 5 of these packets has those of these numbers, however they are read.
@@ -123,14 +124,14 @@ fn are_taken<R: Abort>(rt: &R, alloc: Global, packets: &[[u8; 188]], numbers: &[
     }
     for most in [7, 188, 100_000] {
         let taken = run(
+            rt,
             alloc,
             "take 5 in.ts out.ts",
             packets,
             &[0x47; 100],
             most,
             [0; 3],
-        )
-        .expect(rt, "memory");
+        );
         same(&rt, taken.status, ToolStatus::Done);
         same(&rt, taken.notes.written(), b"done\n".as_slice());
         same(&rt, taken.out.written(), wanted.as_slice());
@@ -139,7 +140,7 @@ fn are_taken<R: Abort>(rt: &R, alloc: Global, packets: &[[u8; 188]], numbers: &[
 
 /// That these packets have no subtitles of the service.
 fn are_none<R: Abort>(rt: &R, alloc: Global, text: &str, number: u16, packets: &[[u8; 188]]) {
-    let taken = run(alloc, text, packets, &[], 1_000, [0; 3]).expect(rt, "memory");
+    let taken = run(rt, alloc, text, packets, &[], 1_000, [0; 3]);
     same(
         &rt,
         taken.status,
@@ -352,9 +353,7 @@ fn a_stream_that_fails_is_told(rt: HostRuntime) {
         ),
     ];
     for (fails, status, note, written) in rows {
-        let taken = run(alloc, "take 5 in.ts out.ts", &packets, &[], 188, fails).expect(
-            &rt, "memory",
-        );
+        let taken = run(&rt, alloc, "take 5 in.ts out.ts", &packets, &[], 188, fails);
         same(&rt, taken.status, status);
         same(&rt, taken.notes.written(), note.as_bytes());
         same(&rt, taken.out.written(), written);
@@ -364,8 +363,14 @@ fn a_stream_that_fails_is_told(rt: HostRuntime) {
         section_of(0x64, 0, &PMT),
         subtitles,
     ];
-    let untold = run(alloc, "take 5 in.ts out.ts", &whole, &[], 188, [0, 0, 1]).expect(
-        &rt, "memory",
+    let untold = run(
+        &rt,
+        alloc,
+        "take 5 in.ts out.ts",
+        &whole,
+        &[],
+        188,
+        [0, 0, 1],
     );
     same(&rt, untold.status, ToolStatus::WriteFault(Which::Notes));
     same(&rt, untold.out.written(), subtitles.as_slice());
@@ -389,7 +394,7 @@ fn other_words_are_wrong(rt: HostRuntime) {
         "mux 5 in.ts out.ts",
     ];
     for text in rows {
-        let taken = run(rt.alloc(), text, &packets, &[], 188, [0; 3]).expect(&rt, "memory");
+        let taken = run(&rt, rt.alloc(), text, &packets, &[], 188, [0; 3]);
         same(&rt, taken.status, ToolStatus::Usage);
         same(&rt, taken.notes.written(), b"usage\n".as_slice());
         same(&rt, taken.out.written(), b"".as_slice());

@@ -62,9 +62,9 @@ fn run<R: Threads + Sync + Abort>(
 ) -> Outcome {
     let [bad_read, bad_write] = failing;
     let words = words_of(alloc, text).expect(rt, "memory");
-    let mut stream = stream_of(alloc, packets, more, 100, bad_read).expect(rt, "memory");
-    let mut out = sink_of(alloc, bad_write).expect(rt, "memory");
-    let mut notes = sink_of(alloc, 0).expect(rt, "memory");
+    let mut stream = stream_of(rt, alloc, packets, more, 100, bad_read);
+    let mut out = sink_of(rt, alloc, bad_write);
+    let mut notes = sink_of(rt, alloc, 0);
     let status = pictures_top(
         rt,
         alloc,
