@@ -2,5 +2,6 @@ pub mod CodesLaws
 pub mod HexLaws
 pub mod RowsLaws
 pub mod RunLaws
+mod ShortRunLaws
 pub mod TestLaws
 pub mod TextLaws

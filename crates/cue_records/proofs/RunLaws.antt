@@ -20,7 +20,7 @@ use Rattle.cue_records.specs.CellFaults.{first_of, fails}
 use Rattle.cue_records.specs.Cells.{◌>>=◌}
 use Rattle.cue_records.specs.Codes.{are_digits, codes_of, has_code}
 use Rattle.cue_records.specs.RowValues.{area}
-use Rattle.cue_records.specs.PixelRuns.{SPACE, STAR, all_runs, is_in_runs, on_first, parted, picture_codes, pixel_count, place_of, run_codes, run_in, runs_in, spelled}
+use Rattle.cue_records.specs.PixelRuns.{SPACE, STAR, all_runs, first_run, is_in_runs, on_first, parted, picture_codes, pixel_count, place_of, run_codes, run_in, runs_in, spelled}
 use Rattle.cue_records.specs.CodeFaults.{codes_fault, pixels_fault, runs_fault, sum_fault}
 use Rattle.cue_records.proofs.TestLaws.{both-true}
 
@@ -83,17 +83,37 @@ left_on start text within =
 abbrev pub place_at : ℕ → List ℕ → ℕ
 place_at start text = place_of SPACE (drop start text)
 
-pub end_read : (start end : ℕ) (text : List ℕ)
-    → end ≡ place_of SPACE (take (length text - start) (drop start text)) → end ≡ place_at start text
-end_read start end text is = is ∙ ap (place_of SPACE) (range_from text start)
+-- a run that was read, with its length
+abbrev pub read_run : PixelRun → ℕ → Option (PixelRun × ℕ)
+read_run run size = Some (run, size)
 
-pub token_read : (depth : Depth) (start end : ℕ) (text : List ℕ) (read : Option PixelRun)
-    → end ≡ place_of SPACE (take (length text - start) (drop start text)) →
-    read ≡ run_in depth (take end (take (length text - start) (drop start text)))
-    → run_in depth (take (place_at start text) (drop start text)) ≡ read
-token_read depth start end text read is e =
-    ap (λ (n : ℕ). run_in depth (take n (drop start text))) (sym (end_read start end text is))
-    ∙ ap (λ (rest : List ℕ). run_in depth (take end rest)) (sym (range_from text start)) ∙ sym e
+same_parts : (run other : PixelRun) (size place : ℕ) → read_run run size ≡ read_run other place
+    → (run ≡ other) × (size ≡ place)
+same_parts run other size place h =
+    let pair : ◌≡◌ {A = PixelRun × ℕ} (run, size) (other, place) = cc in
+    (ap (λ (p : PixelRun × ℕ). p.0) pair, ap (λ (p : PixelRun × ℕ). p.1) pair)
+
+-- what the first run of a text says of the text up to its first space
+pub found_run : (depth : Depth) (text : List ℕ) (run : PixelRun) (size : ℕ) → read_run run size ≡ first_run depth text
+    → (run_in depth (take (place_of SPACE text) text) ≡ Some run) × (size ≡ place_of SPACE text)
+found_run depth text run size h = by (run_in depth (take (place_of SPACE text) text)) refl h
+  where
+    by : (read : Option PixelRun) → run_in depth (take (place_of SPACE text) text) ≡ read
+        → read_run run size ≡ (read >>= λ one. read_run one (place_of SPACE text))
+        → (run_in depth (take (place_of SPACE text) text) ≡ Some run) × (size ≡ place_of SPACE text)
+    by None is h = absurd (let never : read_run run size ≡ None = h in cc)
+    by (Some other) is h =
+        let same = same_parts run other size (place_of SPACE text) h in (is ∙ ap Some (sym same.0), same.1)
+
+pub no_run : (depth : Depth) (text : List ℕ) → None ≡ first_run depth text
+    → run_in depth (take (place_of SPACE text) text) ≡ None
+no_run depth text h = by (run_in depth (take (place_of SPACE text) text)) refl h
+  where
+    by : (read : Option PixelRun) → run_in depth (take (place_of SPACE text) text) ≡ read
+        → None ≡ (read >>= λ one. read_run one (place_of SPACE text))
+        → run_in depth (take (place_of SPACE text) text) ≡ None
+    by None is h = is
+    by (Some other) is h = absurd (let never : None ≡ read_run other (place_of SPACE text) = h in cc)
 
 left_first : (text : List ℕ) → left 0 text ≡ parted SPACE text
 left_first text =

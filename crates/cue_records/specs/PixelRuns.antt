@@ -44,6 +44,11 @@ run_in depth token =
     code_at_depth depth (drop (place_of STAR token + 1) token) >>= λ code.
     Some (record { count = count; code = code })
 
+-- the first run of a text, and its length: up to the first space, or all of the text
+abbrev pub first_run : Depth → List ℕ → Option (PixelRun × ℕ)
+first_run depth text =
+    run_in depth (take (place_of SPACE text) text) >>= λ run. Some (run, place_of SPACE text)
+
 -- the runs that these pieces are, where each is one
 abbrev pub all_runs : Depth → List (List ℕ) → Option (List PixelRun)
 all_runs depth [] = Some []

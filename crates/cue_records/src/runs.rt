@@ -1,10 +1,10 @@
-ghost use Rattle.std.specs.Prelude.{◌≡◌, ◌+◌, ◌<◌, ◌≤◌, ◌^◌, ◌++◌, length, take, replicate, All, IfSome, Some, OnOk};
+ghost use Rattle.std.specs.Prelude.{◌≡◌, ◌+◌, ◌<◌, ◌≤◌, ◌^◌, ◌++◌, [], ◌∷◌, length, slice_index, take, replicate, All, IfSome, Some, OnOk};
 ghost use Rattle.sub_base.specs.Depth.{code_count};
 ghost use Rattle.cue_records.specs.CellFaults.{fault_in};
 ghost use Rattle.sub_base.specs.Number.{number_in as number_in_of};
 ghost use Rattle.cue_records.specs.Codes.{double_code as code_of_two, hex_value};
 ghost use Rattle.cue_records.specs.declared.limits.TheConstants.{LONGEST_RUN};
-ghost use Rattle.cue_records.specs.PixelRuns.{place_of as place_of_mark, code_at_depth as code_at_depth_of, run_in as run_in_of, run_codes, is_in_runs as is_in_runs_of};
+ghost use Rattle.cue_records.specs.PixelRuns.{place_of as place_of_mark, code_at_depth as code_at_depth_of, run_in as run_in_of, first_run as first_run_of, run_codes, is_in_runs as is_in_runs_of};
 ghost use Rattle.cue_records.specs.CodeFaults.{runs_fault};
 
 use crate::fault::ScriptKind;
@@ -42,14 +42,12 @@ pub(crate) fn put_runs(depth: Depth, text: &[u8], codes: &mut [u8]) -> Result<()
     let mut right = true;
     // A run begins behind each space, and so behind one at the end of the text.
     while start <= text.len() {
-        let rest = &text[start..];
-        let end = place_of(b' ', rest);
-        let Some(run) = run_in(depth, &rest[..end]) else {
+        let Some((run, length)) = first_run(depth, &text[start..]) else {
             return Err(ScriptKind::Number);
         };
         filled = put_run(run, codes, filled);
         right &= u16::from(run.code) < depth.code_count();
-        start += end + 1;
+        start += length + 1;
     }
     if filled != codes.len() {
         return Err(ScriptKind::Count);
@@ -82,6 +80,78 @@ fn put_run(run: PixelRun, codes: &mut [u8], filled: usize) -> usize
         codes[filled..end].fill(run.code);
     }
     end
+}
+
+/// The first run of a text, and its length in bytes: up to the first space, or all of the text.
+fn first_run(depth: Depth, text: &[u8]) -> Option<(PixelRun, usize)>
+    ensures run { result ≡ first_run_of depth text.now }
+    ensures within { IfSome result (λ found. found.1 ≤ length text.now) }
+{
+    // Nearly all runs are short, and are read without a search for their ends.
+    if let Some(found) = short_run(depth, text) {
+        return Some(found);
+    }
+    let length = place_of(b' ', text);
+    let run = run_in(depth, &text[..length])?;
+    Some((run, length))
+}
+
+/// The first run of a text, where its count has one digit or two and a space stands behind it.
+#[inline(always)]
+fn short_run(depth: Depth, text: &[u8]) -> Option<(PixelRun, usize)>
+    ensures run { IfSome result (λ found. first_run_of depth text.now ≡ Some found) }
+    ensures within { IfSome result (λ found. found.1 ≤ length text.now) }
+{
+    let star = near_star(text)?;
+    let count = count_in(&text[..star])?;
+    let (code, digits) = code_before_space(depth, text[star + 1], text[star + 2], text[star + 3])?;
+    let run = PixelRun {
+        count: count as u32,
+        code,
+    };
+    Some((run, star + 1 + digits))
+}
+
+/// Where the `*` of a text stands that has it behind one byte or two, and three bytes or more
+/// behind it.
+#[inline(always)]
+fn near_star(text: &[u8]) -> Option<usize>
+    ensures near { IfSome result (λ star. (1 ≤ star) × (star ≤ 2)) }
+    ensures star { IfSome result (λ star. slice_index text.now star ≡ 42) }
+    ensures long { IfSome result (λ star. 6 ≤ length text.now) }
+{
+    if text.len() < 6 {
+        None
+    } else if text[1] == b'*' {
+        Some(1)
+    } else if text[2] == b'*' {
+        Some(2)
+    } else {
+        None
+    }
+}
+
+/// The code that three bytes begin with, and how many digits it has, where a space stands behind
+/// these.
+#[inline(always)]
+fn code_before_space(depth: Depth, first: u8, second: u8, third: u8) -> Option<(u8, usize)>
+    ensures code { IfSome result (λ found.
+        code_at_depth_of depth (take found.1 (first ∷ second ∷ third ∷ [])) ≡ Some found.0) }
+    ensures space { IfSome result (λ found.
+        place_of_mark 32 (first ∷ second ∷ third ∷ []) ≡ found.1) }
+    ensures few { IfSome result (λ found. found.1 ≤ 2) }
+{
+    if depth == Depth::Eight {
+        if third != b' ' {
+            return None;
+        }
+        Some((double_code(first, second)?, 2))
+    } else {
+        if second != b' ' {
+            return None;
+        }
+        Some((single_code(first)?, 1))
+    }
 }
 
 /// The run that a text is: a count, a `*`, and the digits of a code.
