@@ -1,5 +1,5 @@
 -- The first run of a text, where it is short.
-use Rattle.std.proofs.Common.{◌≡◌, ◌∙◌, zero, suc, refl, sym, ap, subst, ℕ, ◌+◌, ◌==◌, ◌<◌, ◌≤◌, Bool, true, false, not, ◌&&◌, if◌then◌else◌, List, [], ◌∷◌, ◌++◌, length, take, drop, get_or, Option, Some, None, arith}
+use Rattle.std.proofs.Common.{◌≡◌, ◌∙◌, zero, suc, refl, sym, ap, subst, ℕ, ◌+◌, ◌==◌, ◌<◌, ◌≤◌, Bool, true, false, ◌&&◌, if◌then◌else◌, List, [], ◌∷◌, ◌++◌, length, take, drop, get_or, Some, None, arith}
 use Rattle.std.proofs.lemmas.Bool.Decides.{nat_tests}
 use Rattle.std.specs.Prelude.{option_and_then}
 use Rattle.std.specs.List.{list_all}
@@ -8,7 +8,6 @@ use Rattle.sub_base.specs.declared.depth.Depth.{Depth}
 use Rattle.sub_base.proofs.NumberLaws.{IsDigit-is}
 use Rattle.cue_records.specs.declared.limits.TheConstants.{LONGEST_RUN}
 use Rattle.cue_records.specs.declared.runs.PixelRun.{PixelRun}
-use Rattle.cue_records.specs.Cells.{◌>>=◌}
 use Rattle.cue_records.specs.PixelRuns.{SPACE, STAR, code_at_depth, first_run, place_of, run_in}
 use Rattle.cue_records.proofs.TestLaws.{both-true}
 
