@@ -27,7 +27,7 @@ SOURCES = ("src", "specs", "proofs")
 LOAD = 20_000
 # What the proof of a large crate takes of memory, in bytes.
 ROOM = 3 * 2**30
-FIRST_CALL = "20 to 40 minutes on four processors"
+FIRST_CALL = "20 to 30 minutes on four processors, and longer beside other work"
 # What comes of a call that another kit does not have, or has otherwise, and of a folder that `rt` takes for no repository.
 NOT_HERE = (AttributeError, ImportError, KeyError, OSError, SystemExit, TypeError, ValueError)
 
