@@ -1,5 +1,5 @@
 -- Bands of whole rows.
-use Rattle.std.proofs.Common.{◌≡◌, ℕ, zero, min, ◌%◌, suc, add-one, ◌+◌, ◌-◌, ◌*◌, ◌/◌, ◌<◌, ◌≤◌, ◌^◌, inl, inr, List, ◌++◌, length, length-drop, take, drop, get_or, slice_index_or, refl, sym, ap, subst, ◌∙◌, arith}
+use Rattle.std.proofs.Common.{◌≡◌, ℕ, zero, min, suc, add-one, ◌+◌, ◌-◌, ◌*◌, ◌/◌, ◌<◌, ◌≤◌, ◌^◌, inl, inr, List, ◌++◌, length, length-drop, take, drop, get_or, slice_index_or, refl, sym, ap, subst, ◌∙◌, arith}
 use Rattle.std.proofs.Math.Nat.{mul_assoc, mul-sub, lt_of_mul-lt-mul_left, mul-lt-mul_of_pos_left, le-mul_of_pos_right, mul-div_cancel, suc-mul, add-mul, mul_comm, mul-le-mul_left}
 use Rattle.std.proofs.Math.ListN.{get_or-append}
 use Rattle.std.proofs.lemmas.Nat.{div-add-mod'}
@@ -15,7 +15,7 @@ use Rattle.sub_base.specs.declared.colour.Colour.{Colour}
 use Rattle.page_core.specs.Memory.{Memory}
 use Rattle.page_core.specs.Rows.{picture_in, row_in}
 use Rattle.band_draw.proofs.Pictures.{row_stands}
-use Rattle.band_draw.specs.Bands.{IsPlanePart, IsBand}
+use Rattle.band_draw.specs.Bands.{IsBand}
 
 -- the number of the first row of a band
 pub first_row : (memory : Memory) (start size width : ℕ) → IsBand memory start size

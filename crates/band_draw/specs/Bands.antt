@@ -1,5 +1,5 @@
 -- Pictures that are drawn in bands of whole rows.
-use Rattle.std.specs.Prelude.{◌≡◌, ℕ, ◌+◌, ◌*◌, ◌<◌, ◌≤◌, List, length, slice_index_or}
+use Rattle.std.specs.Prelude.{◌≡◌, ℕ, ◌+◌, ◌*◌, ◌<◌, ◌≤◌, List, slice_index_or}
 use Rattle.sub_base.specs.Colour.{clear}
 use Rattle.sub_base.specs.declared.colour.Colour.{Colour}
 use Rattle.page_core.specs.Memory.{Memory}

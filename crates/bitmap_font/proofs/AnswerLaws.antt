@@ -1,5 +1,5 @@
 -- A font and a fault of the same bytes exclude each other, and there is one of each. The same of texts that are set.
-use Rattle.std.proofs.Common.{◌≡◌, ◌≢◌, ◌∙◌, ◌⊎◌, refl, sym, ap, inl, inr, ℕ, ◌+◌, ◌*◌, ◌<◌, ◌≤◌, Bool, true, false, List, length, reverse, Option, Some, None, is_some, Result, Ok, Err, IfOk, IfErr, MatchResult, arith}
+use Rattle.std.proofs.Common.{◌≡◌, ◌≢◌, ◌∙◌, ◌⊎◌, refl, sym, ap, inl, inr, ℕ, ◌+◌, ◌*◌, ◌<◌, Bool, true, false, List, reverse, Option, Some, None, is_some, Result, Ok, Err, IfOk, IfErr, MatchResult, arith}
 use Rattle.std.specs.Prelude.{slice_index, IsSome, IsOkUnless, OnOk}
 use Rattle.bitmap_font.specs.declared.bounds.BoundingBox.{BoundingBox}
 use Rattle.bitmap_font.specs.declared.font_fault.FontFault.{FontFault}
@@ -11,7 +11,7 @@ use Rattle.bitmap_font.specs.Font.{FontValue, glyph_of}
 use Rattle.bitmap_font.specs.Past.{Line, counted, box_in}
 use Rattle.bitmap_font.specs.Reading.{fault_of, ends_font, font_lines, lines_before, line_at, AreValid, ListsFont, IsFont, IsRefusedLine}
 use Rattle.bitmap_font.specs.Refusal.{IsFontFault, IsFontRefusal, IsSetRefusal}
-use Rattle.bitmap_font.specs.Setting.{CanBeSet, AllCanBeSet, HasRoom, IsFirstMissing, IsSetFault, widest_line, line_after}
+use Rattle.bitmap_font.specs.Setting.{AllCanBeSet, HasRoom, IsFirstMissing, IsSetFault, widest_line, line_after}
 
 -- of two numbers one is less, or they are the same
 apart_or_same : (a b : ℕ) → (a < b) ⊎ ((b < a) ⊎ (a ≡ b))

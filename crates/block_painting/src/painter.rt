@@ -1,6 +1,6 @@
 //! A pixel data block painted from its first sub-block to its last.
 
-ghost use Rattle.std.specs.Prelude.{◌≡◌, ℕ, ◌+◌, ◌<◌, ◌≤◌, List, [], length, IfSome, unwrap_or};
+ghost use Rattle.std.specs.Prelude.{◌≡◌, ◌<◌, ◌≤◌, List, [], length, IfSome};
 ghost use Rattle.sub_base.specs.declared.depth.Depth.TheVariants.{Eight};
 ghost use Rattle.stream_syntax.specs.PixelBlocks.{Part, AreParts, runs_after, IsNoDeeper};
 ghost use Rattle.decoder_model.specs.Faults.{too_deep_at};

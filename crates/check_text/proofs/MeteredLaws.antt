@@ -21,7 +21,6 @@ use Rattle.stream_syntax.specs.Units.{event_at}
 use Rattle.stream_syntax.specs.declared.transport.Event.{Event}
 use Rattle.sub_base.specs.Endpoints.{Received}
 use Rattle.sub_base.specs.declared.pace.Pace.{Pace}
-use Rattle.sub_base.specs.declared.profile.Profile.{Profile}
 use Rattle.set_receiver.proofs.PastLaws.{ended_past, fed_past, nothing_taken, past_received}
 use Rattle.check_text.specs.CheckText.{check_text, end_text, sets_text}
 use Rattle.set_receiver.specs.Taking.{AllReceived, AreAllBytes, AreLost}

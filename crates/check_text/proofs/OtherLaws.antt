@@ -1,9 +1,8 @@
 -- Packets of other PIDs bring nothing to a receiver, nor to the meter of its coded data buffer.
-use Rattle.std.proofs.Common.{◌≡◌, ◌∙◌, ℕ, ◌+◌, ◌==◌, ◌||◌, Bool, false, List, [], ◌∷◌, ◌++◌, length, reverse, Option, None, append-nil, append_assoc, option_map, refl, sym, ap, subst}
-use Rattle.std.specs.List.{AllByRecursion}
+use Rattle.std.proofs.Common.{◌≡◌, ◌∙◌, ℕ, ◌+◌, ◌==◌, ◌||◌, false, List, [], ◌∷◌, ◌++◌, length, reverse, None, append-nil, append_assoc, option_map, refl, sym, ap, subst}
 use Rattle.std.proofs.lemmas.List.Elements.{All-push}
 use Rattle.decoder_model.specs.Arrivals.{Arrival, arrival_of_unit, arrivals_of, is_over, losses_at, packets_taken, units_at}
-use Rattle.decoder_model.specs.PacketArrivals.{PacketArrival, bytes_of_part, is_dropped, makes_ready, packet_arrival, run_before}
+use Rattle.decoder_model.specs.PacketArrivals.{bytes_of_part, is_dropped, makes_ready, packet_arrival, run_before}
 use Rattle.decoder_model.specs.Readings.{AreDeliveriesRead, Reading}
 use Rattle.decoder_model.specs.Received.{HasReceived, Reception}
 use Rattle.decoder_model.specs.Sets.{Delivery, runs_of, sets_in, sets_of}
@@ -11,10 +10,10 @@ use Rattle.decoder_model.specs.declared.pages.Pages.{Pages}
 use Rattle.display_sets.proofs.PacketLaws.{arrivals_grow, ended_packets, sets_of_packets, taken_more}
 use Rattle.display_sets.specs.Standing as sets
 use Rattle.received_level_laws.specs.StreamCalls.{calls_of_packet}
-use Rattle.received_level_laws.specs.ToldSets.{ToldCall, of_no_set, told_of}
+use Rattle.received_level_laws.specs.ToldSets.{of_no_set, told_of}
 use Rattle.received_level_laws.proofs.ToldLaws.{packet_tells}
 use Rattle.set_reader.specs.Collecting.{Collecting, IsReaderOf}
-use Rattle.set_receiver.specs.Receiving.{HasBeenFed, SetReceiving, reception}
+use Rattle.set_receiver.specs.Receiving.{SetReceiving, reception}
 use Rattle.set_receiver.specs.Taking.{AreAllBytes, HasPast}
 use Rattle.stream_syntax.specs.TransportPackets.{packet_fault, pid_of}
 use Rattle.stream_syntax.specs.Units.{event_at, fate_of, hand_after, joined, part_after, part_of, unit_at}

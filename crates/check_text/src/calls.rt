@@ -1,7 +1,7 @@
 //! The calls of the coded data buffer that a packet gives, with those of the sets that come with
 //! it.
 
-ghost use Rattle.std.specs.Prelude.{◌≡◌, ◌+◌, ◌<◌, ◌≤◌, ◌^◌, ℕ, List, [], ◌∷◌, IsSome};
+ghost use Rattle.std.specs.Prelude.{◌≡◌, ◌<◌, ◌≤◌, ◌^◌, List, [], ◌∷◌, IsSome};
 ghost use Rattle.buffer_model.specs.Calls.{Call};
 ghost use Rattle.buffer_model.specs.Meters.{IsMeterOf};
 ghost use Rattle.decoder_model.specs.PacketArrivals.{is_break};

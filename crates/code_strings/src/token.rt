@@ -1,4 +1,4 @@
-ghost use Rattle.std.specs.Prelude.{◌≡◌, ◌+◌, ◌*◌, ◌^◌, ◌<◌, ◌≤◌, length, IfSome};
+ghost use Rattle.std.specs.Prelude.{◌≡◌, ◌+◌, ◌*◌, ◌<◌, ◌≤◌, length};
 ghost use Rattle.stream_syntax.specs.PixelCodes.{bits_of};
 ghost use Rattle.code_strings.specs.Reading.{two_at, two_long_at, four_at, four_run_at, eight_at, token_at};
 

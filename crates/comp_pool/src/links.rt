@@ -2,7 +2,7 @@
 //! list l, so that each list is a ring: from its end over its nodes and back. List 0 has the free
 //! nodes.
 
-ghost use Rattle.std.specs.Prelude.{◌≡◌, ◌⊎◌, ℕ, ◌+◌, ◌<◌, ◌≤◌, ◌^◌, length, slice_index, slice_set, Contains};
+ghost use Rattle.std.specs.Prelude.{◌≡◌, ◌⊎◌, ℕ, ◌+◌, ◌<◌, ◌≤◌, length, slice_index, slice_set, Contains};
 ghost use Rattle.comp_pool.specs.Private.Links.{next_when_free, back_when_free, lists_of, list_at, IsLinked, IsClosed, IsLast, moved};
 
 // Makes b what follows a.

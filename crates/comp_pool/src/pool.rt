@@ -1,4 +1,4 @@
-ghost use Rattle.std.specs.Prelude.{◌≡◌, ◌↔◌, ℕ, ◌<◌, length, IfOk, IfErr, IsErr, OnErr, Contains};
+ghost use Rattle.std.specs.Prelude.{◌≡◌, ◌↔◌, ℕ, ◌<◌, length, IfOk, IsErr, OnErr, Contains};
 ghost use Rattle.comp_pool.specs.Pool.{empty_pool, list_of, IsInList, IsInSomeList, NoneTwice, node_count};
 ghost use Rattle.comp_pool.specs.Changes.{pushed, unlinked, replaced, cleared, emptied};
 ghost use Rattle.comp_pool.specs.Places.{first_of, behind};

@@ -136,7 +136,7 @@ fn fault_of(
     row: &ByteRecord,
 ) -> Option<ScriptKind> {
     match reader.take(alloc, font, row) {
-        Err(RecordFault::Wrong { kind }) => Some(kind),
+        Err(RecordFault::Wrong(kind)) => Some(kind),
         _ => None,
     }
 }

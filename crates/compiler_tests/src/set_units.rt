@@ -1,4 +1,3 @@
-ghost use Rattle.std.specs.Prelude.{◌≤◌};
 ghost use Rattle.page_epoch.specs.Sendable.{IsOfItsEpoch};
 
 use crate::same::same;

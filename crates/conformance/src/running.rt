@@ -1,5 +1,3 @@
-ghost use Rattle.std.specs.Prelude.{◌≤◌};
-
 use crate::same::same;
 use dvbsub_cmd::top;
 use live_plan::live_top;

@@ -1,5 +1,5 @@
 -- A script and a fault of the same bytes exclude each other, and there is one fault.
-use Rattle.std.proofs.Common.{◌≡◌, ◌≢◌, ◌∙◌, ◌⊎◌, refl, sym, ap, inl, inr, ℕ, ◌+◌, ◌<◌, ◌≤◌, true, false, List, length, Option, Some, None, is_some, Result, Ok, Err, IfOk, IfErr, arith}
+use Rattle.std.proofs.Common.{◌≡◌, ◌≢◌, ◌∙◌, ◌⊎◌, refl, sym, ap, inl, inr, ℕ, ◌<◌, true, false, List, length, Option, Some, None, is_some, Result, Ok, Err, IfOk, IfErr, arith}
 use Rattle.sub_base.specs.Picture.{Picture}
 use Rattle.bitmap_font.specs.Font.{FontValue}
 use Rattle.cue_list.specs.declared.epoch.Epoch.{Epoch}

@@ -1,5 +1,5 @@
 -- The first tick of a valid row is the number in its second cell.
-use Rattle.std.proofs.Common.{◌≡◌, refl, ap, sym, ◌∙◌, ℕ, Bool, true, false, not, List, [], ◌∷◌, Option, Some, None}
+use Rattle.std.proofs.Common.{◌≡◌, refl, ℕ, Bool, true, false, not, List, [], ◌∷◌, Option, Some, None}
 use Rattle.bitmap_font.specs.Font.{FontValue}
 use Rattle.sub_base.specs.Number.{number_of, is_number}
 use Rattle.cue_records.specs.declared.fault.ScriptKind.{ScriptKind}

@@ -1,11 +1,10 @@
 -- Bytes are one script: what its records say determines its values, the pictures among them.
-use Rattle.std.proofs.Common.{◌≡◌, ◌∙◌, refl, sym, ap, subst, inl, inr, ℕ, ◌+◌, ◌*◌, ◌<◌, List, [], ◌∷◌, ◌++◌, length, get_or, Option, Some, Result, Ok, Err, IfOk, IfErr, arith}
+use Rattle.std.proofs.Common.{◌≡◌, ◌∙◌, refl, sym, ap, subst, ℕ, ◌+◌, List, [], ◌∷◌, ◌++◌, length, Option, Some, Result, Ok, Err, IfOk, IfErr}
 use Rattle.std.specs.Prelude.{MatchResult, chars}
 use Rattle.bitmap_font.specs.Font.{FontValue}
 use Rattle.bitmap_font.specs.Setting.{IsSetting}
 use Rattle.bitmap_font.proofs.OneSetting.{one_setting}
-use Rattle.sub_base.specs.declared.depth.Depth.{Depth}
-use Rattle.sub_base.specs.Picture.{Picture, IsPicture, code_at, picture_of}
+use Rattle.sub_base.specs.Picture.{Picture, picture_of}
 use Rattle.cue_list.specs.declared.epoch.Epoch.{Epoch}
 use Rattle.cue_records.specs.declared.region.Region.{Region}
 use Rattle.cue_list.specs.declared.fault.ScriptFault.{ScriptFault}
@@ -16,14 +15,14 @@ use Rattle.cue_records.specs.declared.row_values.PictureHead.{PictureHead}
 use Rattle.cue_list.specs.declared.script.Script.{Script}
 use Rattle.cue_records.specs.CellFaults.{value_at}
 use Rattle.cue_records.specs.Cells.{cell_at}
-use Rattle.cue_list.specs.Drawn.{Brings, IsPictureOf, IsPictureWith}
+use Rattle.cue_list.specs.Drawn.{Brings, IsPictureWith}
 use Rattle.cue_list.specs.Past.{region_with, regions_in}
 use Rattle.cue_records.specs.PixelRuns.{picture_codes}
 use Rattle.cue_records.specs.Records.{Record, records_of, records_before}
 use Rattle.cue_records.specs.RowValues.{head_in}
 use Rattle.cue_records.specs.Rows.{Row}
 use Rattle.cue_list.specs.ScriptRows.{AreDrawn, HasValues, IsScript, IsScriptFault}
-use Rattle.cue_list.specs.Setting.{IsTextOf, IsTextPicture}
+use Rattle.cue_list.specs.Setting.{IsTextPicture}
 use Rattle.cue_list.proofs.AnswerLaws.{script_or_fault}
 
 some_same : {A : Type 0} (x y : A) (found : Option A) → found ≡ Some x → found ≡ Some y → x ≡ y

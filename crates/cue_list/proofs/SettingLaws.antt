@@ -9,11 +9,11 @@ use Rattle.bitmap_font.specs.declared.set_fault.SetFault.{SetFault}
 use Rattle.bitmap_font.specs.declared.set_fault.SetFault.TheVariants as set
 use Rattle.cue_records.specs.declared.region.Region.{Region}
 use Rattle.cue_records.specs.declared.row_values.PlaceRow.{PlaceRow}
-use Rattle.cue_records.specs.declared.row_fault.RowFault.{RowFault}
-use Rattle.cue_records.specs.CellFaults.{first_of, IsRowFault}
+use Rattle.cue_records.specs.declared.record_fault.RecordFault.{RecordFault}
+use Rattle.cue_records.specs.CellFaults.{first_of, IsRecordFault}
 use Rattle.cue_list.specs.Past.{ScriptPast}
 use Rattle.cue_list.specs.RowFaults.{glyph_fault, text_fault}
-use Rattle.cue_list.specs.Setting.{row_fault_of}
+use Rattle.cue_list.specs.Setting.{record_fault_of}
 use Rattle.cue_list.specs.Private.State.{head_of}
 use Rattle.cue_list.specs.TextSizes.{text_head, missing_glyph}
 
@@ -91,10 +91,10 @@ not_zero w some = grind (arith, nat_tests)
 -- a text that cannot be set fails the test of its record
 pub set-refused : (font : FontValue) (characters : List ℕ) (fault : SetFault) (past : ScriptPast) (placing : PlaceRow)
     (region : Region) → IsSetFault font characters fault
-    → IsRowFault
+    → IsRecordFault
     (first_of
     (glyph_fault (missing_glyph font characters)
-    ∷ text_fault past placing region (text_head font region.depth characters) ∷ [])) (row_fault_of fault)
+    ∷ text_fault past placing region (text_head font region.depth characters) ∷ [])) (record_fault_of fault)
 unfolding text_head
 set-refused font characters set.Memory past placing region why = tt
 set-refused font characters (set.MissingGlyph c) past placing region why = rw (missing-some font characters c why) refl
@@ -108,8 +108,8 @@ set-refused font characters set.TooWide past placing region why =
 
 pub set-refused-as : (font : FontValue) (characters : List ℕ) (fault : SetFault) (past : ScriptPast)
     (placing : PlaceRow)
-    (region : Region) (answer : RowFault) → answer ≡ row_fault_of fault → IsSetFault font characters fault
-    → IsRowFault
+    (region : Region) (answer : RecordFault) → answer ≡ record_fault_of fault → IsSetFault font characters fault
+    → IsRecordFault
     (first_of
     (glyph_fault (missing_glyph font characters)
     ∷ text_fault past placing region (text_head font region.depth characters) ∷ [])) answer

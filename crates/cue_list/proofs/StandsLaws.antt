@@ -1,5 +1,5 @@
 -- A reader that takes rows as they come: it stands for one row more, and its script is theirs.
-use Rattle.std.proofs.Common.{zero, suc, ◌≡◌, ◌∙◌, refl, sym, ap, subst, ℕ, ◌+◌, ◌*◌, ◌<◌, ◌≤◌, Bool, true, if◌then◌else◌, List, [], ◌∷◌, ◌++◌, length, map, reverse, take, get_or, below_more, None, Some, is_some, sum_by, arith}
+use Rattle.std.proofs.Common.{suc, ◌≡◌, ◌∙◌, refl, sym, ap, subst, ℕ, ◌+◌, ◌*◌, ◌<◌, ◌≤◌, Bool, true, if◌then◌else◌, List, [], ◌∷◌, ◌++◌, length, map, reverse, take, below_more, Option, None, is_some, sum_by, arith}
 use Rattle.std.proofs.lemmas.List.{reverse-append, length-reverse, take_all, take-append-le, get_or_append_left}
 use Rattle.std.proofs.Props.{props}
 use Rattle.std.proofs.Math.Logic.{∥∥₁_elim, ∥∥₁_map}
@@ -9,8 +9,8 @@ use Rattle.bitmap_font.specs.Font.{FontValue}
 use Rattle.cue_list.specs.declared.reader.Reader.{Reader}
 use Rattle.cue_list.specs.declared.epoch.Epoch.{Epoch}
 use Rattle.cue_records.specs.declared.region.Region.{Region}
-use Rattle.cue_records.specs.declared.row_fault.RowFault.{RowFault}
-use Rattle.cue_records.specs.declared.row_fault.RowFault.TheVariants.{OutOfMemory, Wrong}
+use Rattle.cue_records.specs.declared.fault.ScriptKind.{ScriptKind}
+use Rattle.cue_records.specs.declared.record_fault.RecordFault.{RecordFault}
 use Rattle.cue_records.specs.declared.row_kind.RowKind.{RowKind}
 use Rattle.cue_records.specs.declared.row_kind.RowKind.TheVariants as kinds
 use Rattle.cue_list.specs.declared.script.Script.{Script}
@@ -23,10 +23,10 @@ use Rattle.cue_list.specs.RowFaults.{fault_of, fault_with, regions_of}
 use Rattle.cue_records.specs.Rows.{Row, rows_of}
 use Rattle.cue_list.specs.ScriptRows.{AreDrawn, AreValidRecords, Lists}
 use Rattle.cue_list.specs.Sound.{IsSoundScript}
-use Rattle.cue_list.specs.TakenRows.{CanGoBack, IsRecordFault, IsScriptOf, Kept, Mark, StandsFor, TakesRow, heads_of, nearest, next_fault, numbered, without_heads}
+use Rattle.cue_list.specs.TakenRows.{CanGoBack, IsScriptOf, Kept, Mark, StandsFor, TakesRow, heads_of, nearest, next_fault, numbered, without_heads}
 use Rattle.cue_list.specs.Private.State.{IsReader, next_with, past_of, head_of}
-use Rattle.cue_records.specs.CellFaults.{IsRowFault}
-use Rattle.cue_list.specs.Private.Taken.{kept_of, told_fault}
+use Rattle.cue_records.specs.CellFaults.{IsRecordFault}
+use Rattle.cue_list.specs.Private.Taken.{kept_of}
 use Rattle.cue_list.proofs.PastLaws.{looking-back-more, regions-last}
 use Rattle.cue_list.proofs.ReadLaws.{brings-with, cue-open, few-rows, length-numbered}
 use Rattle.cue_list.proofs.ScriptLaws.{IsSound-kept, few-seconds, sound-rows, whole-pictures}
@@ -303,15 +303,13 @@ takes-inside font rows cells reader copy next old mark seen is marked counted ta
     (subst (StandsFor font rows) (sym (copy-kept reader copy old seen is)) stands)
 
 pub refused-inside : (font : FontValue) (rows : List Row) (cells : Row) (reader copy : Reader) (old : Kept)
-    (fault : RowFault) → kept_of reader ≡ old → IsCopy reader copy
-    → IsRowFault (fault_with font (past_of copy) (record_of (copy.rows + 1) cells)) fault
-    → StandsFor font rows old → IsRecordFault (next_fault font rows cells) (told_fault fault)
-refused-inside font rows cells reader copy old OutOfMemory seen is wrong stands = tt
-refused-inside font rows cells reader copy old (Wrong kind) seen is wrong stands =
-    sym
+    (fault : RecordFault) → kept_of reader ≡ old → IsCopy reader copy
+    → IsRecordFault (fault_with font (past_of copy) (record_of (copy.rows + 1) cells)) fault
+    → StandsFor font rows old → IsRecordFault (next_fault font rows cells) fault
+refused-inside font rows cells reader copy old fault seen is wrong stands =
+    subst (λ (cause : Option ScriptKind). IsRecordFault cause fault)
     (next_fault-kept font rows cells (kept_of copy)
-    (subst (StandsFor font rows) (sym (copy-kept reader copy old seen is)) stands))
-    ∙ wrong
+    (subst (StandsFor font rows) (sym (copy-kept reader copy old seen is)) stands)) wrong
 
 -- what is left of a reader whose pictures were moved
 pub left-marked : (reader left kept : Reader) → kept ≡ left → left ≡ record reader { pictures = left.pictures }

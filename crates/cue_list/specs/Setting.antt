@@ -7,19 +7,19 @@ use Rattle.bitmap_font.specs.declared.set_fault.SetFault.{SetFault}
 use Rattle.bitmap_font.specs.declared.set_fault.SetFault.TheVariants as set
 use Rattle.cue_records.specs.declared.region.Region.{Region}
 use Rattle.cue_records.specs.declared.fault.ScriptKind.TheVariants as faults
-use Rattle.cue_records.specs.declared.row_fault.RowFault.{RowFault}
-use Rattle.cue_records.specs.declared.row_fault.RowFault.TheVariants.{OutOfMemory, Wrong}
+use Rattle.cue_records.specs.declared.record_fault.RecordFault.{RecordFault}
+use Rattle.cue_records.specs.declared.record_fault.RecordFault.TheVariants.{Memory, Wrong}
 use Rattle.cue_records.specs.CellFaults.{value_at}
 use Rattle.cue_records.specs.Cells.{cell_at}
 use Rattle.cue_list.specs.Past.{region_with}
 use Rattle.cue_records.specs.Rows.{Row}
 
 -- the fault of a record whose text cannot be set
-abbrev pub row_fault_of : SetFault → RowFault
-row_fault_of set.Memory = OutOfMemory
-row_fault_of (set.MissingGlyph character) = Wrong (faults.Glyph character)
-row_fault_of set.Empty = Wrong faults.Range
-row_fault_of set.TooWide = Wrong faults.CueOutside
+abbrev pub record_fault_of : SetFault → RecordFault
+record_fault_of set.Memory = Memory
+record_fault_of (set.MissingGlyph character) = Wrong (faults.Glyph character)
+record_fault_of set.Empty = Wrong faults.Range
+record_fault_of set.TooWide = Wrong faults.CueOutside
 
 -- the picture of a cue's text, at its region's depth
 pub record IsTextPicture (font : FontValue) (regions : List Region) (id ink paper : ℕ) (characters : List ℕ)

@@ -1,12 +1,10 @@
 -- The rows that a reader of scripts took one after another, the script that they are, and the way back.
-use Rattle.std.specs.Prelude.{◌≡◌, ℕ, ◌+◌, List, [], ◌∷◌, ◌++◌, length, map, reverse, take, Option, Some, None}
+use Rattle.std.specs.Prelude.{◌≡◌, ℕ, ◌+◌, List, [], ◌∷◌, ◌++◌, length, map, reverse, take, Option, None}
 use Rattle.sub_base.specs.Picture.{Picture}
 use Rattle.bitmap_font.specs.Font.{FontValue}
 use Rattle.cue_records.specs.declared.fault.ScriptKind.{ScriptKind}
 use Rattle.cue_records.specs.declared.row_values.PictureHead.{PictureHead}
 use Rattle.cue_list.specs.declared.script.Script.{Script}
-use Rattle.cue_list.specs.declared.script_reader.RecordFault.{RecordFault}
-use Rattle.cue_list.specs.declared.script_reader.RecordFault.TheVariants as record_faults
 use Rattle.cue_list.specs.Past.{ScriptPast, looking_back}
 use Rattle.cue_records.specs.Records.{Record, record_of, records_from, records_before}
 use Rattle.cue_list.specs.RowFaults.{fault_of}
@@ -32,11 +30,6 @@ pub record IsScriptOf (font : FontValue) (records : List Record) (script : Scrip
   pub right : AreValidRecords font records (length records)
   pub lists : Lists font (records_before records (length records)) script.origin script.width script.height
       script.refresh script.epochs script.pictures
-
--- why a row is not taken; memory may want at any time
-abbrev pub IsRecordFault : Option ScriptKind → RecordFault → Type 0
-IsRecordFault fault record_faults.Memory = Unit {0}
-IsRecordFault fault (record_faults.Wrong kind) = fault ≡ Some kind
 
 -- ---- a reader
 

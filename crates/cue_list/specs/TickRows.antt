@@ -1,5 +1,5 @@
 -- Rows beside a script's own: `tick`, T; and the first tick that a row has a part in.
-use Rattle.std.specs.Prelude.{ℕ, ◌==◌, nat_le, not, Bool, false, List, [], ◌∷◌, length, Option, Some, None, option_map, codes}
+use Rattle.std.specs.Prelude.{ℕ, ◌==◌, nat_le, not, Bool, false, [], ◌∷◌, length, Option, Some, None, option_map, codes}
 use Rattle.std.specs.Str.{bytes_eq}
 use Rattle.cue_records.specs.declared.fault.ScriptKind.{ScriptKind}
 use Rattle.cue_records.specs.declared.fault.ScriptKind.TheVariants as faults

@@ -1,7 +1,7 @@
 ghost use Rattle.cue_records.specs.declared.limits.TheConstants.{MOST_CODES, MOST_CUES, MOST_HEIGHT, MOST_WIDTH};
-ghost use Rattle.std.specs.Prelude.{◌≡◌, ◌≤◌, ◌<◌, ◌+◌, ◌^◌, ◌∷◌, [], ◌++◌, true, false, None, Some, chars, length, map, option_map, IfNone, IfSome, OnOk, OnErr, IfOk, IfErr};
+ghost use Rattle.std.specs.Prelude.{◌≡◌, ◌≤◌, ◌<◌, ◌+◌, ◌^◌, ◌∷◌, [], true, false, None, Some, chars, map, option_map, IfNone, OnOk, OnErr, IfOk, IfErr};
 ghost use Rattle.csv.specs.Records.{fields_of};
-ghost use Rattle.cue_records.specs.CellFaults.{first_of, is_text_row, value_at, place_cells as place_cells_of, cue_cells as cue_cells_of, IsRowFault};
+ghost use Rattle.cue_records.specs.CellFaults.{first_of, is_text_row, value_at, place_cells as place_cells_of, cue_cells as cue_cells_of, IsRecordFault};
 ghost use Rattle.cue_records.specs.Cells.{cell_at};
 ghost use Rattle.cue_records.specs.RowValues.{area as area_of_head, placing_in};
 ghost use Rattle.cue_list.specs.Past.{region_with as region_with_of, is_close};
@@ -19,7 +19,7 @@ use crate::setting::head_of;
 use bitmap_font::Font;
 use csv::ByteRecord;
 use cue_records::{
-    CueCells, PictureHead, PlaceRow, Region, RowFault, ScriptKind, area, cue_cells, place_cells,
+    CueCells, PictureHead, PlaceRow, RecordFault, Region, ScriptKind, area, cue_cells, place_cells,
     text_cell,
 };
 use indexed_picture::Indexed;
@@ -70,7 +70,7 @@ impl Reader {
 
     /// Takes a picture that is placed.
     #[tactic(auto, unfolding(crate::specs::RowFaults::place_fault, cue_records::specs::RowValues::placing_in))]
-    pub(crate) fn take_place(&mut self, number: u64, row: &ByteRecord) -> Result<(), RowFault>
+    pub(crate) fn take_place(&mut self, number: u64, row: &ByteRecord) -> Result<(), RecordFault>
         requires reader { IsReader self.old }
         requires text { is_text_row (fields_of row.now) ≡ true }
         requires few { self.old.cues < MOST_CUES }
@@ -82,7 +82,7 @@ impl Reader {
             (place_next (past_of self.old) number (fields_of row.now)) self.new) }
         ensures pictures { self.new.pictures ≡ self.old.pictures }
         ensures refused { IfErr result
-            (IsRowFault
+            (IsRecordFault
             (first_of
             (place_cells_of self.old.origin (fields_of row.now)
             ∷ place_fault_of (past_of self.old) (placing_in (fields_of row.now))
@@ -93,7 +93,7 @@ impl Reader {
         let region = region_with(self.regions(), place.placing.region);
         let head = self.head_at(found);
         if let Some(kind) = self.placed_fault(place.placing, region, head) {
-            return Err(RowFault::Wrong(kind));
+            return Err(RecordFault::Wrong(kind));
         }
         // Kept behind all tests, so that each of them is about the records before.
         self.ticks.add_both(place.placing.start, place.placing.end)?;
@@ -134,7 +134,7 @@ impl Reader {
 
     /// The picture of a cue that passes its tests.
     #[tactic(auto, unfolding(crate::specs::RowFaults::cue_fault))]
-    fn cue_picture(&self, font: &Font, cue: CueCells, text: &str) -> Result<Indexed, RowFault>
+    fn cue_picture(&self, font: &Font, cue: CueCells, text: &str) -> Result<Indexed, RecordFault>
         requires start { cue.placing.start < 2 ^ 62 }
         requires end { cue.placing.end < 2 ^ 62 }
         requires few { self.now.codes ≤ MOST_CODES }
@@ -154,23 +154,23 @@ impl Reader {
         ensures room { IfOk result
             (λ picture. self.now.codes + area_of_head (head_of_picture picture) ≤ MOST_CODES) }
         ensures refused { IfErr result
-            (IsRowFault
+            (IsRecordFault
             (cue_fault_of font.now (past_of self.now) cue.placing cue.ink cue.paper
             (chars text.now))) }
     {
         let Some(region) = region_with(self.regions(), cue.placing.region) else {
-            return Err(RowFault::Wrong(ScriptKind::NoRegion));
+            return Err(RecordFault::Wrong(ScriptKind::NoRegion));
         };
         if u16::from(cue.ink) >= region.depth.code_count()
             || u16::from(cue.paper) >= region.depth.code_count()
         {
-            return Err(RowFault::Wrong(ScriptKind::CodeRange));
+            return Err(RecordFault::Wrong(ScriptKind::CodeRange));
         }
         // Set before its place is tested: only then are its sides known.
         let picture = self.set_text(font, text, cue, region)?;
         let head = head_of(&picture);
         if let Some(kind) = self.text_fault(cue.placing, region, head) {
-            return Err(RowFault::Wrong(kind));
+            return Err(RecordFault::Wrong(kind));
         }
         Ok(picture)
     }
@@ -182,7 +182,7 @@ impl Reader {
         font: &Font,
         number: u64,
         row: &ByteRecord,
-    ) -> Result<(), RowFault>
+    ) -> Result<(), RecordFault>
         requires reader { IsReader self.old }
         requires text { is_text_row (fields_of row.now) ≡ true }
         requires few { self.old.cues < MOST_CUES }
@@ -197,7 +197,7 @@ impl Reader {
             (IsTextOf font.now (regions_of self.old.epoch) (fields_of row.now)
             self.old.pictures.items self.new.pictures.items) }
         ensures refused { IfErr result
-            (IsRowFault
+            (IsRecordFault
             (first_of
             (cue_cells_of self.old.origin (fields_of row.now)
             ∷ cue_fault_of font.now (past_of self.old) (placing_in (fields_of row.now))

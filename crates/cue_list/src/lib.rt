@@ -39,13 +39,12 @@ mod read;
 pub use cue_records::{
     CLOSE_TICKS, ColourRow, LATEST_ORIGIN, LONGEST_CUE, LONGEST_NAME, LONGEST_RUN, LONGEST_SCRIPT,
     MOST_CODES, MOST_COLOURS, MOST_CUES, MOST_DIGITS, MOST_EPOCHS, MOST_HEIGHT, MOST_PICTURES,
-    MOST_REGIONS, MOST_WIDTH, Region, ScriptKind,
+    MOST_REGIONS, MOST_WIDTH, RecordFault, Region, ScriptKind,
 };
 pub use epoch::{Cue, Epoch};
 pub use fault::ScriptFault;
 pub use kept_rows::{LentScript, RowBefore, ScriptReader};
 pub use painting::picture_at;
 pub use script::{Pictures, Script};
-pub use script_reader::RecordFault;
 pub use single_rows::{OnlyRow, only_row};
 pub use tick_rows::is_tick_row;

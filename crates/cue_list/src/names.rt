@@ -1,8 +1,8 @@
 ghost use Rattle.std.specs.Prelude.{◌≡◌, ℕ, List, None, OnOk, IfErr, IfOk};
-ghost use Rattle.cue_records.specs.CellFaults.{IsRowFault};
+ghost use Rattle.cue_records.specs.CellFaults.{IsRecordFault};
 ghost use Rattle.cue_list.specs.Private.Names.{place_by, named_with};
 
-use cue_records::RowFault;
+use cue_records::RecordFault;
 use std::alloc::Global;
 use std::collections::BTreeMap;
 use sub_base::NoMemory;
@@ -39,8 +39,8 @@ impl Names {
     }
 
     /// Notes the place of a picture of that name.
-    pub(crate) fn add(&mut self, alloc: Global, name: &str, place: u32) -> Result<(), RowFault>
-        ensures memory { IfErr result (IsRowFault None) }
+    pub(crate) fn add(&mut self, alloc: Global, name: &str, place: u32) -> Result<(), RecordFault>
+        ensures memory { IfErr result (IsRecordFault None) }
         ensures added { OnOk result
             (place_by self.new ≡ named_with name.now place (place_by self.old)) }
     {

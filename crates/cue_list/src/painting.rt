@@ -1,6 +1,5 @@
 ghost use Rattle.std.specs.Prelude.{◌≡◌, ◌==◌, ◌&&◌, ◌≢◌, ◌↔◌, ℕ, ◌+◌, ◌*◌, ◌<◌, ◌≤◌, List, [], length, slice_index, IsTrue, option_map};
 ghost use Rattle.sub_base.specs.Depth.{code_count};
-ghost use Rattle.sub_base.specs.Picture.{IsPicture};
 ghost use Rattle.cue_list.specs.Authored.{authored_picture, picture_at_place, epoch_at as epoch_at_tick, is_live as is_live_at, live_cues};
 ghost use Rattle.sub_base.specs.declared.colour.Colour.{Colour};
 ghost use Rattle.cue_list.specs.Planes.{IsBlank, HasLive, SetsRow, SetsAll, FitsIn, PaintsRows, FillsRows, PaintsRegion, AreEntriesBy, AreCuesOf, ArePaintable, ShowsRegions, HasDefaults, colour_of, sets_clut as sets_clut_by};

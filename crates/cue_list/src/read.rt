@@ -1,6 +1,5 @@
-ghost use Rattle.std.specs.Prelude.{◌≡◌, ◌≢◌, ◌+◌, ◌<◌, ◌^◌, ℕ, List, [], true, length, is_some, IfOk, IfErr, MatchResult};
+ghost use Rattle.std.specs.Prelude.{◌≡◌, ◌≢◌, ◌+◌, ◌<◌, ◌^◌, ℕ, List, [], true, is_some, IfOk, IfErr, MatchResult};
 ghost use Rattle.cue_list.specs.Private.HasRead.{HasRead};
-ghost use Rattle.cue_records.specs.Records.{records_of};
 ghost use Rattle.cue_list.specs.ScriptRows.{AnswersScriptFault, IsScriptFault, HasValues, IsScript};
 ghost use Rattle.sub_base.specs.Picture.{Picture};
 ghost use Rattle.std.specs.Prelude.{Err, None};
@@ -15,7 +14,7 @@ use crate::reader::Reader;
 use crate::script::{Pictures, Script};
 use bitmap_font::Font;
 use csv::ByteRecord;
-use cue_records::{RowFault, ScriptKind, next_row, reader_of};
+use cue_records::{RecordFault, ScriptKind, next_row, reader_of};
 use std::alloc::Global;
 use sub_base::{Items, NoMemory, SECOND};
 
@@ -105,8 +104,8 @@ pub(crate) fn read_records(alloc: Global, bytes: &[u8], font: &Font) -> Result<R
         // A record that is refused is not counted.
         let before = reader.rows;
         match reader.take(alloc, font, &row) {
-            Err(RowFault::OutOfMemory) => return Err(ScriptFault::Memory),
-            Err(RowFault::Wrong(kind)) => return refusal(before, kind),
+            Err(RecordFault::Memory) => return Err(ScriptFault::Memory),
+            Err(RecordFault::Wrong(kind)) => return refusal(before, kind),
             Ok(()) => {}
         }
     }

@@ -1,7 +1,7 @@
 ghost use Rattle.cue_records.specs.declared.limits.TheConstants.{MOST_COLOURS};
-ghost use Rattle.std.specs.Prelude.{◌≡◌, ◌∷◌, [], ◌<◌, ◌^◌, None, OnOk, IfErr, option_map};
+ghost use Rattle.std.specs.Prelude.{◌≡◌, ◌∷◌, [], ◌<◌, None, OnOk, IfErr, option_map};
 ghost use Rattle.csv.specs.Records.{fields_of};
-ghost use Rattle.cue_records.specs.CellFaults.{first_of, value_at, origin_cells as origin_cells_of, display_cells as display_cells_of, refresh_cells as refresh_cells_of, epoch_cells as epoch_cells_of, region_cells as region_cells_of, colour_cells as colour_cells_of, IsRowFault};
+ghost use Rattle.cue_records.specs.CellFaults.{first_of, value_at, origin_cells as origin_cells_of, display_cells as display_cells_of, refresh_cells as refresh_cells_of, epoch_cells as epoch_cells_of, region_cells as region_cells_of, colour_cells as colour_cells_of, IsRecordFault};
 ghost use Rattle.cue_list.specs.RowFaults.{epoch_fault as epoch_fault_of, region_fault as region_fault_of, colour_fault as colour_fault_of};
 ghost use Rattle.cue_records.specs.RowValues.{region_in, colour_in};
 ghost use Rattle.cue_list.specs.Private.State.{IsReader, past_of, IsTaken, origin_next, display_next, refresh_next, epoch_next, region_next, colour_next, with_region, with_colour, with_cue};
@@ -11,7 +11,7 @@ use crate::epoch::{Cue, Epoch};
 use crate::reader::Reader;
 use csv::ByteRecord;
 use cue_records::{
-    ColourRow, Region, RowFault, colour_cells, display_cells, epoch_cells, origin_cells,
+    ColourRow, RecordFault, Region, colour_cells, display_cells, epoch_cells, origin_cells,
     refresh_cells, region_cells,
 };
 use std::alloc::Global;
@@ -19,28 +19,28 @@ use sub_base::Items;
 
 impl Reader {
     /// Takes the tick from which packets are sent.
-    pub(crate) fn take_origin(&mut self, row: &ByteRecord) -> Result<(), RowFault>
+    pub(crate) fn take_origin(&mut self, row: &ByteRecord) -> Result<(), RecordFault>
         requires { IsReader self.old }
         ensures taken { OnOk result
             (IsTaken (first_of (origin_cells_of (fields_of row.now) ∷ None ∷ []))
             (origin_next (past_of self.old) (fields_of row.now)) self.new) }
         ensures pictures { self.new.pictures ≡ self.old.pictures }
         ensures refused { IfErr result
-            (IsRowFault (first_of (origin_cells_of (fields_of row.now) ∷ None ∷ []))) }
+            (IsRecordFault (first_of (origin_cells_of (fields_of row.now) ∷ None ∷ []))) }
     {
         self.origin = origin_cells(row)?;
         Ok(())
     }
 
     /// Takes the sides of the display.
-    pub(crate) fn take_display(&mut self, row: &ByteRecord) -> Result<(), RowFault>
+    pub(crate) fn take_display(&mut self, row: &ByteRecord) -> Result<(), RecordFault>
         requires { IsReader self.old }
         ensures taken { OnOk result
             (IsTaken (first_of (display_cells_of (fields_of row.now) ∷ None ∷ []))
             (display_next (past_of self.old) (fields_of row.now)) self.new) }
         ensures pictures { self.new.pictures ≡ self.old.pictures }
         ensures refused { IfErr result
-            (IsRowFault (first_of (display_cells_of (fields_of row.now) ∷ None ∷ []))) }
+            (IsRecordFault (first_of (display_cells_of (fields_of row.now) ∷ None ∷ []))) }
     {
         let display = display_cells(row)?;
         self.width = display.width;
@@ -49,14 +49,14 @@ impl Reader {
     }
 
     /// Takes the seconds from one refresh to the next.
-    pub(crate) fn take_refresh(&mut self, row: &ByteRecord) -> Result<(), RowFault>
+    pub(crate) fn take_refresh(&mut self, row: &ByteRecord) -> Result<(), RecordFault>
         requires { IsReader self.old }
         ensures taken { OnOk result
             (IsTaken (first_of (refresh_cells_of (fields_of row.now) ∷ None ∷ []))
             (refresh_next (past_of self.old) (fields_of row.now)) self.new) }
         ensures pictures { self.new.pictures ≡ self.old.pictures }
         ensures refused { IfErr result
-            (IsRowFault (first_of (refresh_cells_of (fields_of row.now) ∷ None ∷ []))) }
+            (IsRecordFault (first_of (refresh_cells_of (fields_of row.now) ∷ None ∷ []))) }
     {
         self.seconds = refresh_cells(row)?;
         Ok(())
@@ -68,7 +68,7 @@ impl Reader {
         alloc: Global,
         number: u64,
         row: &ByteRecord,
-    ) -> Result<(), RowFault>
+    ) -> Result<(), RecordFault>
         requires { IsReader self.old }
         ensures taken { OnOk result
             (IsTaken (first_of
@@ -77,14 +77,14 @@ impl Reader {
             (epoch_next (past_of self.old) number (fields_of row.now)) self.new) }
         ensures pictures { self.new.pictures ≡ self.old.pictures }
         ensures refused { IfErr result
-            (IsRowFault
+            (IsRecordFault
             (first_of
             (epoch_cells_of self.old.origin (fields_of row.now)
             ∷ epoch_fault_of (past_of self.old) (value_at (fields_of row.now) 1) ∷ []))) }
     {
         let start = epoch_cells(row, self.origin)?;
         if let Some(kind) = self.epoch_fault(start) {
-            return Err(RowFault::Wrong(kind));
+            return Err(RecordFault::Wrong(kind));
         }
         self.ticks.add(start)?;
         if let Some(epoch) = self.epoch.take() {
@@ -101,7 +101,7 @@ impl Reader {
     }
 
     /// Takes a region of the last epoch.
-    pub(crate) fn take_region(&mut self, row: &ByteRecord) -> Result<(), RowFault>
+    pub(crate) fn take_region(&mut self, row: &ByteRecord) -> Result<(), RecordFault>
         requires { IsReader self.old }
         ensures taken { OnOk result
             (IsTaken (first_of
@@ -110,21 +110,21 @@ impl Reader {
             (region_next (past_of self.old) (fields_of row.now)) self.new) }
         ensures pictures { self.new.pictures ≡ self.old.pictures }
         ensures refused { IfErr result
-            (IsRowFault
+            (IsRecordFault
             (first_of
             (region_cells_of (fields_of row.now)
             ∷ region_fault_of (past_of self.old) (region_in (fields_of row.now)) ∷ []))) }
     {
         let region = region_cells(row)?;
         if let Some(kind) = self.region_fault(region) {
-            return Err(RowFault::Wrong(kind));
+            return Err(RecordFault::Wrong(kind));
         }
         add_region(&mut self.epoch, region)
     }
 
     /// Takes a colour of the last epoch.
     #[tactic(auto, unfolding(cue_records::specs::RowValues::colour_in))]
-    pub(crate) fn take_colour(&mut self, number: u64, row: &ByteRecord) -> Result<(), RowFault>
+    pub(crate) fn take_colour(&mut self, number: u64, row: &ByteRecord) -> Result<(), RecordFault>
         requires reader { IsReader self.old }
         requires few { self.old.colours < MOST_COLOURS }
         ensures taken { OnOk result
@@ -134,7 +134,7 @@ impl Reader {
             (colour_next (past_of self.old) number (fields_of row.now)) self.new) }
         ensures pictures { self.new.pictures ≡ self.old.pictures }
         ensures refused { IfErr result
-            (IsRowFault
+            (IsRecordFault
             (first_of
             (colour_cells_of self.old.origin (fields_of row.now)
             ∷ colour_fault_of (past_of self.old) (colour_in number (fields_of row.now))
@@ -142,7 +142,7 @@ impl Reader {
     {
         let colour = colour_cells(row, self.origin, number)?;
         if let Some(kind) = self.colour_fault(colour) {
-            return Err(RowFault::Wrong(kind));
+            return Err(RecordFault::Wrong(kind));
         }
         self.ticks.add(colour.tick)?;
         add_colour(&mut self.epoch, colour)?;
@@ -152,9 +152,9 @@ impl Reader {
 }
 
 /// Adds a region to an epoch, where there is one.
-fn add_region(epoch: &mut Option<Epoch>, region: Region) -> Result<(), RowFault>
+fn add_region(epoch: &mut Option<Epoch>, region: Region) -> Result<(), RecordFault>
     ensures added { OnOk result (epoch.new ≡ option_map (with_region region) epoch.old) }
-    ensures memory { IfErr result (IsRowFault None) }
+    ensures memory { IfErr result (IsRecordFault None) }
 {
     let Some(mut last) = epoch.take() else {
         return Ok(());
@@ -166,9 +166,9 @@ fn add_region(epoch: &mut Option<Epoch>, region: Region) -> Result<(), RowFault>
 }
 
 /// Adds a colour to an epoch, where there is one.
-fn add_colour(epoch: &mut Option<Epoch>, colour: ColourRow) -> Result<(), RowFault>
+fn add_colour(epoch: &mut Option<Epoch>, colour: ColourRow) -> Result<(), RecordFault>
     ensures added { OnOk result (epoch.new ≡ option_map (with_colour colour) epoch.old) }
-    ensures memory { IfErr result (IsRowFault None) }
+    ensures memory { IfErr result (IsRecordFault None) }
 {
     let Some(mut last) = epoch.take() else {
         return Ok(());
@@ -179,9 +179,9 @@ fn add_colour(epoch: &mut Option<Epoch>, colour: ColourRow) -> Result<(), RowFau
 }
 
 /// Adds a cue to an epoch, where there are both.
-pub(crate) fn add_cue(epoch: &mut Option<Epoch>, cue: Option<Cue>) -> Result<(), RowFault>
+pub(crate) fn add_cue(epoch: &mut Option<Epoch>, cue: Option<Cue>) -> Result<(), RecordFault>
     ensures added { OnOk result (epoch.new ≡ option_map (with_cue cue) epoch.old) }
-    ensures memory { IfErr result (IsRowFault None) }
+    ensures memory { IfErr result (IsRecordFault None) }
 {
     let Some(mut last) = epoch.take() else {
         return Ok(());

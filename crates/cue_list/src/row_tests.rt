@@ -1,9 +1,9 @@
-ghost use Rattle.std.specs.Prelude.{◌≡◌, ◌<◌, ◌≤◌, ◌^◌, ◌+◌, length, false, IfNone};
+ghost use Rattle.std.specs.Prelude.{◌≡◌, ◌<◌, ◌≤◌, ◌^◌, ◌+◌, false, IfNone};
 ghost use Rattle.std.specs.List.{list_any};
 ghost use Rattle.cue_list.specs.Past.{region_with as region_with_of, is_close as is_close_of};
-ghost use Rattle.cue_list.specs.RowFaults.{is_misplaced as is_misplaced_of, is_full as is_full_of, is_used as is_used_of, epoch_count, regions_of, starts_before, lasts_past, is_early as is_early_of, are_too_many as are_too_many_of, epoch_fault as epoch_fault_of, region_fault as region_fault_of, colour_fault as colour_fault_of, span_fault as span_fault_of, placed_fault as placed_fault_of};
+ghost use Rattle.cue_list.specs.RowFaults.{is_misplaced as is_misplaced_of, is_full as is_full_of, is_used as is_used_of, epoch_count, regions_of, starts_before, lasts_past, is_early as is_early_of, are_too_many as are_too_many_of, epoch_fault as epoch_fault_of, region_fault as region_fault_of, colour_fault as colour_fault_of, span_fault as span_fault_of};
 ghost use Rattle.cue_records.specs.Regions.{share_row};
-ghost use Rattle.cue_list.specs.Private.State.{IsReader, past_of};
+ghost use Rattle.cue_list.specs.Private.State.{past_of};
 ghost use Rattle.cue_list.specs.Private.Ticks.{near_by};
 ghost use Rattle.std.specs.Prelude.{nat_lt, nat_le};
 

@@ -1,33 +1,23 @@
 ghost use Rattle.std.specs.Prelude.{◌≡◌, ◌<◌, ◌^◌, ◌==◌, List, [], is_some, option_map, IfErr, IfOk, OnErr};
 ghost use Rattle.csv.specs.Records.{fields_of};
 ghost use Rattle.bitmap_font.specs.Font.{FontValue};
-ghost use Rattle.cue_records.specs.CellFaults.{fault_in, tick_fault, value_at};
+ghost use Rattle.cue_records.specs.CellFaults.{fault_in, tick_fault, value_at, IsRecordFault};
 ghost use Rattle.cue_records.specs.Cells.{cell_at};
 ghost use Rattle.cue_records.specs.Rows.{Row};
-ghost use Rattle.cue_list.specs.TakenRows.{CanGoBack, IsRecordFault, StandsFor, TakesRow, next_fault};
-ghost use Rattle.cue_list.specs.Private.Taken.{told_fault};
+ghost use Rattle.cue_list.specs.TakenRows.{CanGoBack, StandsFor, TakesRow, next_fault};
 ghost use Rattle.cue_list.specs.SeenReaders.{mark_of, seen_of};
 
 use crate::kept_rows::{RowBefore, ScriptReader};
 use crate::reader::Reader;
 use bitmap_font::Font;
 use csv::ByteRecord;
-use cue_records::{RowFault, ScriptKind, cell, tick_cell};
+use cue_records::{RecordFault, ScriptKind, cell, tick_cell};
 use std::alloc::Global;
 use std::mem;
 use sub_base::NoMemory;
 
 /// More records than that are not counted.
 const MOST_ROWS: u64 = u64::MAX - 1;
-
-/// Why a record was not taken.
-#[derive(Clone, Copy, Debug, PartialEq, Eq)]
-pub enum RecordFault {
-    /// No memory was found.
-    Memory,
-    /// The first of its tests that fails.
-    Wrong { kind: ScriptKind },
-}
 
 impl ScriptReader {
     /// Before the first record.
@@ -72,7 +62,7 @@ impl ScriptReader {
             }
             Err(fault) => {
                 mem::swap(&mut self.kept.pictures, &mut next.pictures);
-                Err(record_fault(fault))
+                Err(fault)
             }
         }
     }
@@ -129,15 +119,5 @@ impl ScriptReader {
         ensures small { IfOk result (λ tick. tick < 2 ^ 40) }
     {
         tick_cell(cell(row, 1), self.kept.origin)
-    }
-}
-
-/// The fault of a record as it is told.
-fn record_fault(fault: RowFault) -> RecordFault
-    ensures { result ≡ told_fault fault }
-{
-    match fault {
-        RowFault::OutOfMemory => RecordFault::Memory,
-        RowFault::Wrong(kind) => RecordFault::Wrong { kind },
     }
 }

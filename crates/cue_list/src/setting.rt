@@ -4,14 +4,14 @@ ghost use Rattle.sub_base.specs.Depth.{code_count};
 ghost use Rattle.sub_base.specs.Picture.{IsPicture};
 ghost use Rattle.cue_records.specs.declared.limits.TheConstants.{MOST_HEIGHT, MOST_WIDTH};
 ghost use Rattle.cue_list.specs.RowFaults.{text_fault, glyph_fault};
-ghost use Rattle.cue_records.specs.CellFaults.{first_of, IsRowFault};
+ghost use Rattle.cue_records.specs.CellFaults.{first_of, IsRecordFault};
 ghost use Rattle.cue_list.specs.Private.State.{past_of, head_of as head_of_picture};
 ghost use Rattle.cue_list.specs.TextSizes.{text_head, missing_glyph};
-ghost use Rattle.cue_list.specs.Setting.{row_fault_of as row_fault_of_set};
+ghost use Rattle.cue_list.specs.Setting.{record_fault_of as row_fault_of_set};
 
 use crate::reader::Reader;
 use bitmap_font::{Font, SetFault};
-use cue_records::{CueCells, PictureHead, Region, RowFault, ScriptKind};
+use cue_records::{CueCells, PictureHead, RecordFault, Region, ScriptKind};
 use indexed_picture::Indexed;
 
 /// The depth and the sides of a picture.
@@ -33,7 +33,7 @@ impl Reader {
         text: &str,
         cue: CueCells,
         region: Region,
-    ) -> Result<Indexed, RowFault>
+    ) -> Result<Indexed, RecordFault>
         requires ink { cue.ink < code_count region.depth }
         requires paper { cue.paper < code_count region.depth }
         ensures glyphs { OnOk result (missing_glyph font.now (chars text.now) ≡ None) }
@@ -46,7 +46,7 @@ impl Reader {
         ensures small { IfOk result
             (λ picture. (picture.width ≤ MOST_WIDTH) × (picture.height ≤ MOST_HEIGHT)) }
         ensures refused { IfErr result
-            (IsRowFault
+            (IsRecordFault
             (first_of
             (glyph_fault (missing_glyph font.now (chars text.now))
             ∷ text_fault (past_of self.now) cue.placing region
@@ -54,20 +54,20 @@ impl Reader {
     {
         match font.set(text, cue.ink, cue.paper, region.depth) {
             Ok(picture) => Ok(picture),
-            Err(fault) => Err(row_fault_of(fault)),
+            Err(fault) => Err(record_fault_of(fault)),
         }
     }
 }
 
 /// The fault of a record whose text cannot be set.
-fn row_fault_of(fault: SetFault) -> RowFault
+fn record_fault_of(fault: SetFault) -> RecordFault
     ensures { result ≡ row_fault_of_set fault }
 {
     match fault {
-        SetFault::Memory => RowFault::OutOfMemory,
-        SetFault::MissingGlyph(character) => RowFault::Wrong(ScriptKind::Glyph(character)),
-        SetFault::Empty => RowFault::Wrong(ScriptKind::Range),
+        SetFault::Memory => RecordFault::Memory,
+        SetFault::MissingGlyph(character) => RecordFault::Wrong(ScriptKind::Glyph(character)),
+        SetFault::Empty => RecordFault::Wrong(ScriptKind::Range),
         // Wider or higher than any display, so no region holds it.
-        SetFault::TooWide => RowFault::Wrong(ScriptKind::CueOutside),
+        SetFault::TooWide => RecordFault::Wrong(ScriptKind::CueOutside),
     }
 }

@@ -1,6 +1,6 @@
 ghost use Rattle.std.specs.Prelude.{◌≡◌, ◌+◌, ◌<◌, ◌^◌, true, false, None, OnOk, OnErr, IfErr, IfNone};
 ghost use Rattle.csv.specs.Records.{fields_of};
-ghost use Rattle.cue_records.specs.CellFaults.{is_text_row as is_text_row_of, IsRowFault};
+ghost use Rattle.cue_records.specs.CellFaults.{is_text_row as is_text_row_of, IsRecordFault};
 ghost use Rattle.cue_list.specs.Drawn.{Brings};
 ghost use Rattle.cue_records.specs.Records.{record_of, kind_of};
 ghost use Rattle.cue_list.specs.RowFaults.{shape_fault as shape_fault_of, fault_with, is_full as is_full_of, regions_of};
@@ -10,7 +10,7 @@ ghost use Rattle.cue_records.specs.Cells.{cell_at};
 use crate::reader::Reader;
 use bitmap_font::Font;
 use csv::ByteRecord;
-use cue_records::{RowFault, RowKind, ScriptKind, cell, is_text_row};
+use cue_records::{RecordFault, RowKind, ScriptKind, cell, is_text_row};
 use std::alloc::Global;
 
 impl Reader {
@@ -20,7 +20,7 @@ impl Reader {
         alloc: Global,
         font: &Font,
         row: &ByteRecord,
-    ) -> Result<(), RowFault>
+    ) -> Result<(), RecordFault>
         requires reader { IsReader self.old }
         requires fits { self.old.rows + 1 < 2 ^ 64 }
         ensures reader { OnOk result (IsReader self.new) }
@@ -35,20 +35,20 @@ impl Reader {
             (Brings font.now (regions_of self.old.epoch) (kind_of (cell_at (fields_of row.now) 0))
             (fields_of row.now) self.old.pictures.items self.new.pictures.items) }
         ensures refused { IfErr result
-            (IsRowFault
+            (IsRecordFault
             (fault_with font.now (past_of self.old)
             (record_of (self.old.rows + 1) (fields_of row.now)))) }
         ensures kept { OnErr result (self.new.pictures.items ≡ self.old.pictures.items) }
     {
         let kind = RowKind::of(cell(row, 0));
         if let Some(fault) = shape_fault(kind, row) {
-            return Err(RowFault::Wrong(fault));
+            return Err(RecordFault::Wrong(fault));
         }
         if self.is_misplaced(kind) {
-            return Err(RowFault::Wrong(ScriptKind::Order));
+            return Err(RecordFault::Wrong(ScriptKind::Order));
         }
         if self.is_full(kind) {
-            return Err(RowFault::Wrong(ScriptKind::TooMany));
+            return Err(RecordFault::Wrong(ScriptKind::TooMany));
         }
         let number = self.rows + 1;
         self.take_content(alloc, font, kind, number, row)?;
@@ -64,7 +64,7 @@ impl Reader {
         kind: RowKind,
         number: u64,
         row: &ByteRecord,
-    ) -> Result<(), RowFault>
+    ) -> Result<(), RecordFault>
         requires reader { IsReader self.old }
         requires text { is_text_row_of (fields_of row.now) ≡ true }
         requires room { is_full_of (past_of self.old) kind ≡ false }
@@ -75,7 +75,7 @@ impl Reader {
             (Brings font.now (regions_of self.old.epoch) kind (fields_of row.now)
             self.old.pictures.items self.new.pictures.items) }
         ensures refused { IfErr result
-            (IsRowFault
+            (IsRecordFault
             (content_fault font.now (past_of self.old) kind number (fields_of row.now))) }
         ensures kept { OnErr result (self.new.pictures.items ≡ self.old.pictures.items) }
     {

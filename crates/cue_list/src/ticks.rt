@@ -1,7 +1,6 @@
-ghost use Rattle.std.specs.Prelude.{◌≡◌, ◌||◌, ◌<◌, ◌^◌, ℕ, false, IfOk, OnOk, option_copied};
-ghost use Rattle.std.specs.Ordering.{nat_cmp};
+ghost use Rattle.std.specs.Prelude.{◌≡◌, ◌||◌, ◌<◌, ◌^◌, ℕ, false, IfOk, OnOk};
 ghost use Rattle.cue_list.specs.Past.{is_close as is_close_of};
-ghost use Rattle.cue_list.specs.Private.Ticks.{IsTicks, near_by, near_with, named_by, is_close_to, span_of};
+ghost use Rattle.cue_list.specs.Private.Ticks.{IsTicks, near_by, near_with, named_by, is_close_to};
 
 use std::alloc::{AllocFailed, Global};
 use std::collections::BTreeMap;

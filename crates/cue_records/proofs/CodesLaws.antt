@@ -73,31 +73,31 @@ single_codes-next : (limit : ℕ) (text : List ℕ) (i : ℕ) → i < length tex
 single_codes-next limit text i within = rw (add-one, drop-cons text i 0) refl
 
 -- what holds of the codes of the first digits
-pub record AreSingle (limit : ℕ) (text codes : List ℕ) (place : ℕ) (right : Bool) : Type 0 where
+pub record AreSingle (limit : ℕ) (text codes : List ℕ) (place : ℕ) (valid : Bool) : Type 0 where
   pub count : length codes ≡ length text
-  pub digits : right ≡ list_all (has_code limit) (take place text)
-  pub codes_so : right ≡ true
+  pub digits : valid ≡ list_all (has_code limit) (take place text)
+  pub codes_so : valid ≡ true
       → after_codes (take place codes) (single_codes limit (drop place text)) ≡ single_codes limit text
-  pub range : right ≡ true → All (λ code. code < limit) (take place codes)
+  pub range : valid ≡ true → All (λ code. code < limit) (take place codes)
 
-pub single_more : (limit : ℕ) (text codes : List ℕ) (place value : ℕ) (right : Bool) → limit ≤ 16
+pub single_more : (limit : ℕ) (text codes : List ℕ) (place value : ℕ) (valid : Bool) → limit ≤ 16
     → place < length codes → value ≡ unwrap_or (hex_value (get_or text place 0)) 255
-    → AreSingle limit text codes place right
-    → AreSingle limit text (set codes place value) (place + 1) (right && nat_lt value limit)
-single_more limit text codes place value right small within is before = record {
+    → AreSingle limit text codes place valid
+    → AreSingle limit text (set codes place value) (place + 1) (valid && nat_lt value limit)
+single_more limit text codes place value valid small within is before = record {
   count = length-set codes place value ∙ before.count;
   digits =
       ap₂ (λ a b. a && b) before.digits (value_below limit (get_or text place 0) value small is)
       ∙ sym (list_all_more (has_code limit) text place 0 (omega (arith, before.count)));
   codes_so = λ all.
-      let now = both-true right (nat_lt value limit) all in
+      let now = both-true valid (nat_lt value limit) all in
       sym (after_codes-next (take place codes) (take (place + 1) (set codes place value))
       (single_code limit (get_or text place 0)) value (single_codes limit (drop (place + 1) text))
       (value_code limit (get_or text place 0) value small is now.1) (take_more_set codes place value within))
       ∙ ap (after_codes (take place codes)) (sym (single_codes-next limit text place (omega (arith, before.count))))
       ∙ before.codes_so now.0;
   range = λ all.
-      let now = both-true right (nat_lt value limit) all in
+      let now = both-true valid (nat_lt value limit) all in
       let low : value < limit = grind (arith, nat_tests, now.1) in
       subst (All (λ code. code < limit)) (sym (take_more_set codes place value within))
       (All-push (λ code. code < limit) (take place codes) value (before.range now.0) low);
@@ -134,19 +134,19 @@ digit_in_chunk width (suc count) (suc k) j text within inside =
     ∙ ap (λ n. get_or text n 0) (omega (arith, mul-suc width k))
 
 -- what holds of the codes of the first pairs of digits
-pub record AreDouble (text codes : List ℕ) (place : ℕ) (right : Bool) : Type 0 where
+pub record AreDouble (text codes : List ℕ) (place : ℕ) (valid : Bool) : Type 0 where
   pub count : length text ≡ 2 * length codes
-  pub digits : right ≡ list_all (has_code 16) (take (2 * place) text)
-  pub codes_so : right ≡ true
+  pub digits : valid ≡ list_all (has_code 16) (take (2 * place) text)
+  pub codes_so : valid ≡ true
       → after_codes (take place codes) (double_codes (drop (2 * place) text)) ≡ double_codes text
 
-pub double_more : (text codes : List ℕ) (place high low : ℕ) (right : Bool) → place < length codes
+pub double_more : (text codes : List ℕ) (place high low : ℕ) (valid : Bool) → place < length codes
     → high ≡ unwrap_or (hex_value (get_or text (2 * place) 0)) 255
     → low ≡ unwrap_or (hex_value (get_or text (2 * place + 1) 0)) 255
-    → AreDouble text codes place right
+    → AreDouble text codes place valid
     → AreDouble text (set codes place (high % 16 * 16 + low % 16)) (place + 1)
-    ((right && nat_lt high 16) && nat_lt low 16)
-double_more text codes place high low right within is are before =
+    ((valid && nat_lt high 16) && nat_lt low 16)
+double_more text codes place high low valid within is are before =
     let e : 2 * (place + 1) ≡ 2 * place + 1 + 1 = omega arith in
     record {
       count = omega (arith, length-set codes place (high % 16 * 16 + low % 16), before.count);
@@ -157,8 +157,8 @@ double_more text codes place high low right within is are before =
           ∙ sym (list_all_more (has_code 16) text (2 * place + 1) 0 (omega (arith, before.count)))
           ∙ ap (λ n. list_all (has_code 16) (take n text)) (sym e);
       codes_so = λ all.
-          let now = both-true (right && nat_lt high 16) (nat_lt low 16) all in
-          let first = both-true right (nat_lt high 16) now.0 in
+          let now = both-true (valid && nat_lt high 16) (nat_lt low 16) all in
+          let first = both-true valid (nat_lt high 16) now.0 in
           ap (λ n. after_codes (take (place + 1) (set codes place (high % 16 * 16 + low % 16)))
           (double_codes (drop n text))) e
           ∙ sym (after_codes-next (take place codes) (take (place + 1) (set codes place (high % 16 * 16 + low % 16)))

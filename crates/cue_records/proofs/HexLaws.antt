@@ -109,11 +109,11 @@ not-true true h = absurd (let never : false ≡ true = h in cc)
 not-true false h = refl
 
 -- where the tests of a text's codes find nothing, it has as many digits as are wanted
-pub right-digits : (head : PictureHead) (text : List ℕ) → IsUtf8 text → codes_fault head (chars text) ≡ None
+pub valid-digits : (head : PictureHead) (text : List ℕ) → IsUtf8 text → codes_fault head (chars text) ≡ None
     → (length text ≡ digits_of head.depth * area head) × (are_digits head.depth text ≡ true)
 unfolding codes_fault
-right-digits head text utf8 right =
-    let passed = three-pass _ _ _ _ _ _ right in
+valid-digits head text utf8 valid =
+    let passed = three-pass _ _ _ _ _ _ valid in
     let all : list_all is_hex (chars text) ≡ true = not-false _ passed.1 in
     let same : chars text ≡ text = chars-hex text utf8 all in (
       ap length (sym same) ∙ eqb-true _ _ (not-false _ passed.0),
@@ -123,10 +123,10 @@ right-digits head text utf8 right =
     )
 
 -- and the other way round
-pub digits-right : (head : PictureHead) (text : List ℕ) → length text ≡ digits_of head.depth * area head
+pub digits-valid : (head : PictureHead) (text : List ℕ) → length text ≡ digits_of head.depth * area head
     → are_digits head.depth text ≡ true → codes_fault head (chars text) ≡ None
 unfolding codes_fault
-digits-right head text count digits =
+digits-valid head text count digits =
     let parts =
     both-true (list_all is_hex text) (not (list_any (is_large head.depth) text))
     (digits_by head.depth text ∙ digits) in

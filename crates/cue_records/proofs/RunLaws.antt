@@ -131,14 +131,14 @@ one_more front run None = refl
 one_more front run (Some others) = ap Some (sym (append_assoc front (run ∷ []) others))
 
 -- what holds of the places behind the first runs
-pub record ArePut (depth : Depth) (text codes : List ℕ) (start filled : ℕ) (right : Bool) : Type 0 where
+pub record ArePut (depth : Depth) (text codes : List ℕ) (start filled : ℕ) (valid : Bool) : Type 0 where
   pub runs : List PixelRun
   pub read : runs_in depth text ≡ after_runs runs (all_runs depth (left start text))
   pub within : start ≤ length text + 1
   pub some : filled ≤ length codes + 1
   pub fits : pixel_count runs ≤ length codes → (filled ≡ pixel_count runs) × (take filled codes ≡ spelled runs)
   pub over : length codes < pixel_count runs → filled ≡ length codes + 1
-  pub range : right ≡ list_all (λ (run : PixelRun). nat_lt run.code (code_count depth)) runs
+  pub range : valid ≡ list_all (λ (run : PixelRun). nat_lt run.code (code_count depth)) runs
 
 all_read : (read : Option (List PixelRun)) → read ≡ after_runs [] read
 all_read None = refl
@@ -178,13 +178,13 @@ spelled_more runs run =
     flat_map-append (λ (x : PixelRun). replicate x.count x.code) runs (run ∷ [])
     ∙ ap (λ (xs : List ℕ). spelled runs ++ xs) (append-nil (replicate run.count run.code))
 
-over_by : (depth : Depth) (text old new : List ℕ) (start filled next : ℕ) (right : Bool) (run : PixelRun)
-    → (before : ArePut depth text old start filled right) → IsPut run old new filled next
+over_by : (depth : Depth) (text old new : List ℕ) (start filled next : ℕ) (valid : Bool) (run : PixelRun)
+    → (before : ArePut depth text old start filled valid) → IsPut run old new filled next
     → length old < pixel_count before.runs + run.count →
     (pixel_count before.runs ≤ length old) ⊎ (length old < pixel_count before.runs) → next ≡ length old + 1
-over_by depth text old new start filled next right run before put h (inl few) =
+over_by depth text old new start filled next valid run before put h (inl few) =
     put.over (let same = (before.fits few).0 in omega arith)
-over_by depth text old new start filled next right run before put h (inr many) =
+over_by depth text old new start filled next valid run before put h (inr many) =
     put.over (let same = before.over many in omega arith)
 
 some_by : (run : PixelRun) (old new : List ℕ) (filled next : ℕ) → IsPut run old new filled next
@@ -192,13 +192,13 @@ some_by : (run : PixelRun) (old new : List ℕ) (filled next : ℕ) → IsPut ru
 some_by run old new filled next put (inl h) = let same = (put.fits h).0 in let count = put.count in omega arith
 some_by run old new filled next put (inr h) = let same = put.over h in let count = put.count in omega arith
 
-pub put_more : (depth : Depth) (text old new : List ℕ) (start filled next : ℕ) (right : Bool) (run : PixelRun)
+pub put_more : (depth : Depth) (text old new : List ℕ) (start filled next : ℕ) (valid : Bool) (run : PixelRun)
     → start ≤ length text
     → run_in depth (take (place_of SPACE (drop start text)) (drop start text)) ≡ Some run →
-    ArePut depth text old start filled right → IsPut run old new filled next →
+    ArePut depth text old start filled valid → IsPut run old new filled next →
     ArePut depth text new (start + (place_of SPACE (drop start text) + 1)) next
-    (right && nat_lt run.code (code_count depth))
-put_more depth text old new start filled next right run within is before put =
+    (valid && nat_lt run.code (code_count depth))
+put_more depth text old new start filled next valid run within is before put =
     let rest = drop start text in
     let n = place_of SPACE rest in
     let tokens = left (start + (n + 1)) text in
@@ -226,7 +226,7 @@ put_more depth text old new start filled next right run within is before put =
                 ∙ sym (spelled_more before.runs run),
           );
       over =
-          λ h. let sum = counted_more before.runs run in let e = over_by depth text old new start filled next right run
+          λ h. let sum = counted_more before.runs run in let e = over_by depth text old new start filled next valid run
           before put (omega arith) (grind arith) in omega arith;
       range =
           ap (λ (b : Bool). b && nat_lt run.code (code_count depth)) before.range
@@ -242,12 +242,12 @@ put_more depth text old new start filled next right run within is before put =
 -- ---- what is wrong with them
 
 -- a piece that is no run
-pub put_wrong : (depth : Depth) (text codes : List ℕ) (start filled : ℕ) (right : Bool) → start ≤ length text
+pub put_wrong : (depth : Depth) (text codes : List ℕ) (start filled : ℕ) (valid : Bool) → start ≤ length text
     → run_in depth (take (place_of SPACE (drop start text)) (drop start text)) ≡ None
-    → ArePut depth text codes start filled right →
+    → ArePut depth text codes start filled valid →
     Some faults.Number ≡ runs_fault depth (length codes) text
 unfolding runs_fault
-put_wrong depth text codes start filled right within is before =
+put_wrong depth text codes start filled valid within is before =
     let tokens = left (start + (place_of SPACE (drop start text) + 1)) text in
     sym (ap (sum_fault depth (length codes))
     (before.read
@@ -256,30 +256,30 @@ put_wrong depth text codes start filled right within is before =
     (first >>= λ run. all_runs depth tokens >>= λ runs. Some (run ∷ runs))) is))
 
 -- all pieces are runs
-all_put : (depth : Depth) (text codes : List ℕ) (start filled : ℕ) (right : Bool) → length text < start
-    → (before : ArePut depth text codes start filled right) → runs_in depth text ≡ Some before.runs
-all_put depth text codes start filled right past before =
+all_put : (depth : Depth) (text codes : List ℕ) (start filled : ℕ) (valid : Bool) → length text < start
+    → (before : ArePut depth text codes start filled valid) → runs_in depth text ≡ Some before.runs
+all_put depth text codes start filled valid past before =
     let none : nat_le start (length text) ≡ false = grind (arith, nat_tests) in
     before.read
     ∙ ap (λ (b : Bool). after_runs before.runs
     (all_runs depth (if b then parted SPACE (drop start text) else []))) none ∙ ap Some (append-nil before.runs)
 
-exact_by : (depth : Depth) (text codes : List ℕ) (start filled : ℕ) (right : Bool)
-    → (before : ArePut depth text codes start filled right) → filled ≡ length codes →
+exact_by : (depth : Depth) (text codes : List ℕ) (start filled : ℕ) (valid : Bool)
+    → (before : ArePut depth text codes start filled valid) → filled ≡ length codes →
     (pixel_count before.runs ≤ length codes) ⊎ (length codes < pixel_count before.runs)
     → (pixel_count before.runs ≡ length codes) × (spelled before.runs ≡ codes)
-exact_by depth text codes start filled right before e (inl few) =
+exact_by depth text codes start filled valid before e (inl few) =
     let now = before.fits few in
     let same = now.0 in
     (omega arith, sym now.1 ∙ ap (λ (n : ℕ). take n codes) e ∙ take-length codes)
-exact_by depth text codes start filled right before e (inr many) = let over = before.over many in absurd (omega arith)
+exact_by depth text codes start filled valid before e (inr many) = let over = before.over many in absurd (omega arith)
 
 -- so many pixels are not there
-pub put_uneven : (depth : Depth) (text codes : List ℕ) (start filled : ℕ) (right : Bool) → length text < start
-    → ArePut depth text codes start filled right → (filled ≡ length codes → ⊥) →
+pub put_uneven : (depth : Depth) (text codes : List ℕ) (start filled : ℕ) (valid : Bool) → length text < start
+    → ArePut depth text codes start filled valid → (filled ≡ length codes → ⊥) →
     Some faults.Count ≡ runs_fault depth (length codes) text
 unfolding runs_fault
-put_uneven depth text codes start filled right past before e = by (pixel_count before.runs == length codes) refl
+put_uneven depth text codes start filled valid past before e = by (pixel_count before.runs == length codes) refl
   where
     by : (b : Bool) → (pixel_count before.runs == length codes) ≡ b
         → Some faults.Count ≡ sum_fault depth (length codes) (runs_in depth text)
@@ -288,7 +288,7 @@ put_uneven depth text codes start filled right past before e = by (pixel_count b
         let now = (before.fits (omega arith)).0 in
         absurd (e (now ∙ same))
     by false is =
-        sym (ap (sum_fault depth (length codes)) (all_put depth text codes start filled right past before)
+        sym (ap (sum_fault depth (length codes)) (all_put depth text codes start filled valid past before)
         ∙ rw is refl)
 
 wide_by : (depth : Depth) (runs : List PixelRun)
@@ -310,41 +310,41 @@ wide_by depth (run ∷ runs) =
         ap (λ (b : Bool). b || list_any (λ (run : PixelRun). nat_le (code_count depth) run.code) runs) h
 
 -- all pixels are there, and the last test decides
-put_whole : (depth : Depth) (text codes : List ℕ) (start filled : ℕ) (right : Bool) → length text < start
-    → ArePut depth text codes start filled right → filled ≡ length codes →
-    (if right then None else Some faults.CodeRange) ≡ runs_fault depth (length codes) text
+put_whole : (depth : Depth) (text codes : List ℕ) (start filled : ℕ) (valid : Bool) → length text < start
+    → ArePut depth text codes start filled valid → filled ≡ length codes →
+    (if valid then None else Some faults.CodeRange) ≡ runs_fault depth (length codes) text
 unfolding runs_fault
-put_whole depth text codes start filled right past before e =
-    let exact = exact_by depth text codes start filled right before e (grind arith) in
+put_whole depth text codes start filled valid past before e =
+    let exact = exact_by depth text codes start filled valid before e (grind arith) in
     let even : (pixel_count before.runs == length codes) ≡ true =
     eq-eqb (pixel_count before.runs) (length codes) exact.0 in
-    sym (ap (sum_fault depth (length codes)) (all_put depth text codes start filled right past before)
-    ∙ rw (even, wide_by depth before.runs, sym before.range) (by right))
+    sym (ap (sum_fault depth (length codes)) (all_put depth text codes start filled valid past before)
+    ∙ rw (even, wide_by depth before.runs, sym before.range) (by valid))
   where
     by : (b : Bool) → first_of (fails (not b) faults.CodeRange ∷ []) ≡ (if b then None else Some faults.CodeRange)
     by true = refl
     by false = refl
 
-pub put_wide : (depth : Depth) (text codes : List ℕ) (start filled : ℕ) (right : Bool) → length text < start
-    → ArePut depth text codes start filled right → filled ≡ length codes → right ≡ false →
+pub put_wide : (depth : Depth) (text codes : List ℕ) (start filled : ℕ) (valid : Bool) → length text < start
+    → ArePut depth text codes start filled valid → filled ≡ length codes → valid ≡ false →
     Some faults.CodeRange ≡ runs_fault depth (length codes) text
-put_wide depth text codes start filled right past before e wide =
+put_wide depth text codes start filled valid past before e wide =
     ap (λ (b : Bool). if b then None else Some faults.CodeRange) (sym wide)
-    ∙ put_whole depth text codes start filled right past before e
+    ∙ put_whole depth text codes start filled valid past before e
 
-pub put_right : (depth : Depth) (text codes : List ℕ) (start filled : ℕ) (right : Bool) → length text < start
-    → ArePut depth text codes start filled right → filled ≡ length codes → right ≡ true →
+pub put_valid : (depth : Depth) (text codes : List ℕ) (start filled : ℕ) (valid : Bool) → length text < start
+    → ArePut depth text codes start filled valid → filled ≡ length codes → valid ≡ true →
     None ≡ runs_fault depth (length codes) text
-put_right depth text codes start filled right past before e good =
+put_valid depth text codes start filled valid past before e good =
     ap (λ (b : Bool). if b then None else Some faults.CodeRange) (sym good)
-    ∙ put_whole depth text codes start filled right past before e
+    ∙ put_whole depth text codes start filled valid past before e
 
-pub put_codes : (depth : Depth) (text codes : List ℕ) (start filled : ℕ) (right : Bool) → length text < start
-    → ArePut depth text codes start filled right → filled ≡ length codes → run_codes depth text ≡ Some codes
-put_codes depth text codes start filled right past before e =
-    let exact = exact_by depth text codes start filled right before e (grind arith) in
+pub put_codes : (depth : Depth) (text codes : List ℕ) (start filled : ℕ) (valid : Bool) → length text < start
+    → ArePut depth text codes start filled valid → filled ≡ length codes → run_codes depth text ≡ Some codes
+put_codes depth text codes start filled valid past before e =
+    let exact = exact_by depth text codes start filled valid before e (grind arith) in
     ap (λ (read : Option (List PixelRun)). read >>= λ runs. Some (spelled runs))
-    (all_put depth text codes start filled right past before) ∙ ap Some exact.1
+    (all_put depth text codes start filled valid past before) ∙ ap Some exact.1
 
 small_codes : (limit : ℕ) (runs : List PixelRun)
     → list_all (λ (run : PixelRun). nat_lt run.code limit) runs ≡ true
@@ -356,11 +356,11 @@ small_codes limit (run ∷ runs) all =
     All-append (λ (code : ℕ). code < limit) (replicate run.count run.code) (spelled runs)
     (All-replicate (λ (code : ℕ). code < limit) run.count run.code small) (small_codes limit runs parts.1)
 
-pub put_range : (depth : Depth) (text codes : List ℕ) (start filled : ℕ) (right : Bool)
-    → ArePut depth text codes start filled right → filled ≡ length codes → right ≡ true
+pub put_range : (depth : Depth) (text codes : List ℕ) (start filled : ℕ) (valid : Bool)
+    → ArePut depth text codes start filled valid → filled ≡ length codes → valid ≡ true
     → All (λ (code : ℕ). code < code_count depth) codes
-put_range depth text codes start filled right before e good =
-    let exact = exact_by depth text codes start filled right before e (grind arith) in
+put_range depth text codes start filled valid before e good =
+    let exact = exact_by depth text codes start filled valid before e (grind arith) in
     subst (λ (xs : List ℕ). All (λ (code : ℕ). code < code_count depth) xs) exact.1
     (small_codes (code_count depth) before.runs (sym before.range ∙ good))
 

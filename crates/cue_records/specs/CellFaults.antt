@@ -6,8 +6,8 @@ use Rattle.sub_base.specs.Number.{is_number, value_from}
 use Rattle.cue_records.specs.declared.limits.TheConstants.{LATEST_ORIGIN, LONGEST_SCRIPT, MOST_DIGITS, MOST_HEIGHT, MOST_WIDTH}
 use Rattle.cue_records.specs.declared.fault.ScriptKind.{ScriptKind}
 use Rattle.cue_records.specs.declared.fault.ScriptKind.TheVariants as faults
-use Rattle.cue_records.specs.declared.row_fault.RowFault.{RowFault}
-use Rattle.cue_records.specs.declared.row_fault.RowFault.TheVariants.{OutOfMemory, Wrong}
+use Rattle.cue_records.specs.declared.record_fault.RecordFault.{RecordFault}
+use Rattle.cue_records.specs.declared.record_fault.RecordFault.TheVariants.{Memory, Wrong}
 use Rattle.cue_records.specs.declared.row_kind.RowKind.{RowKind}
 use Rattle.cue_records.specs.declared.row_kind.RowKind.TheVariants as kinds
 use Rattle.cue_records.specs.Rows.{Row}
@@ -151,7 +151,7 @@ cells_fault origin kinds.Other row = None
 abbrev pub is_text_row : Row → Bool
 is_text_row row = list_all is_utf8 row
 
--- why a record was not taken
-abbrev pub IsRowFault : Option ScriptKind → RowFault → Type 0
-IsRowFault fault OutOfMemory = ⊤
-IsRowFault fault (Wrong kind) = fault ≡ Some kind
+-- why a record was not taken; memory may want at any time
+abbrev pub IsRecordFault : Option ScriptKind → RecordFault → Type 0
+IsRecordFault fault Memory = ⊤
+IsRecordFault fault (Wrong kind) = fault ≡ Some kind

@@ -1,4 +1,4 @@
-ghost use Rattle.std.specs.Prelude.{◌≡◌, ◌*◌, ◌<◌, ◌≤◌, ℕ, length, true, All, Some};
+ghost use Rattle.std.specs.Prelude.{◌≡◌, ◌*◌, ◌<◌, ◌≤◌, length, true, All, Some};
 ghost use Rattle.std.specs.List.{list_all};
 ghost use Rattle.sub_base.specs.Depth.{code_count};
 ghost use Rattle.cue_records.specs.Codes.{has_code, are_digits, single_codes, double_codes, codes_of};
@@ -34,15 +34,15 @@ fn put_single_codes(limit: u8, text: &[u8], codes: &mut [u8]) -> bool
     ensures range { result ≡ true → All (λ code. code < limit) codes.new }
     ensures count { length codes.new ≡ length codes.old }
 {
-    let mut right = true;
+    let mut valid = true;
     for place in 0..codes.len() {
         let value = digit_value(text[place]);
         codes[place] = value;
         // No way out at the first such character: a loop without one needs no branch, and nearly
         // every picture is valid.
-        right &= value < limit;
+        valid &= value < limit;
     }
-    right
+    valid
 }
 
 /// Codes of two digits each.
@@ -55,7 +55,7 @@ fn put_double_codes(text: &[u8], codes: &mut [u8]) -> bool
 {
     // As pairs, of which a processor loads many at once.
     let (pairs, _) = text.as_chunks::<2>();
-    let mut right = true;
+    let mut valid = true;
     for place in 0..codes.len() {
         let [first, second] = pairs[place];
         let high = digit_value(first);
@@ -63,8 +63,8 @@ fn put_double_codes(text: &[u8], codes: &mut [u8]) -> bool
         // A character that is no digit is 255. What it makes here is not used, but has to fit a
         // byte.
         codes[place] = high % 16 * 16 + low % 16;
-        right &= high < 16;
-        right &= low < 16;
+        valid &= high < 16;
+        valid &= low < 16;
     }
-    right
+    valid
 }

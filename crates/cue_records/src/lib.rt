@@ -7,7 +7,7 @@
 // The limits of scripts, and what is wrong with a record.
 mod fault;
 mod limits;
-mod row_fault;
+mod record_fault;
 
 // Rows out of text, and their cells.
 mod cells;
@@ -34,12 +34,12 @@ pub use limits::{
     MOST_WIDTH,
 };
 pub use picture_codes::read_codes;
+pub use record_fault::RecordFault;
 pub use region::Region;
 pub use row_cells::{
     CueCells, PlaceCells, colour_cells, cue_cells, display_cells, epoch_cells, origin_cells,
     picture_cells, place_cells, refresh_cells, region_cells, tick_cell,
 };
-pub use row_fault::RowFault;
 pub use row_kind::RowKind;
 pub use row_values::{ColourRow, DisplayRow, PictureHead, PlaceRow, area};
 pub use rows::{next_row, reader_of};

@@ -1,7 +1,7 @@
 ghost use Rattle.std.specs.Prelude.{◌≡◌, ◌<◌, ◌*◌, true, None, Some, length, All, OnOk, IfOk, IfErr};
 ghost use Rattle.csv.specs.Records.{fields_of};
 ghost use Rattle.sub_base.specs.Depth.{code_count};
-ghost use Rattle.cue_records.specs.CellFaults.{is_text_row, IsRowFault};
+ghost use Rattle.cue_records.specs.CellFaults.{is_text_row, IsRecordFault};
 ghost use Rattle.cue_records.specs.Cells.{cell_at};
 ghost use Rattle.cue_records.specs.CodeFaults.{pixels_fault, runs_fault};
 ghost use Rattle.cue_records.specs.PixelRuns.{picture_codes, run_codes};
@@ -9,7 +9,7 @@ ghost use Rattle.cue_records.specs.RowValues.{area as area_of_head};
 
 use crate::cells::cell;
 use crate::codes::put_codes;
-use crate::row_fault::RowFault;
+use crate::record_fault::RecordFault;
 use crate::row_values::{PictureHead, area};
 use crate::runs::{is_in_runs, put_runs};
 use crate::texts::{codes_fault, digits, text_cell};
@@ -18,9 +18,13 @@ use std::alloc::Global;
 
 /// The codes that stand in a record, one for each pixel: as digits, or in runs. A text of as many
 /// digits as are wanted is walked once; only one that is refused is walked again, for its fault.
-pub fn read_codes(alloc: Global, head: PictureHead, row: &ByteRecord) -> Result<Vec<u8>, RowFault>
+pub fn read_codes(
+    alloc: Global,
+    head: PictureHead,
+    row: &ByteRecord,
+) -> Result<Vec<u8>, RecordFault>
     requires { is_text_row (fields_of row.now) ≡ true }
-    ensures right { OnOk result
+    ensures valid { OnOk result
         (pixels_fault head (cell_at (fields_of row.now) 5) ≡ None) }
     ensures read { IfOk result
         (λ codes. picture_codes head.depth (cell_at (fields_of row.now) 5) ≡ Some codes.items) }
@@ -28,7 +32,7 @@ pub fn read_codes(alloc: Global, head: PictureHead, row: &ByteRecord) -> Result<
     ensures range { IfOk result
         (λ codes. All (λ code. code < code_count head.depth) codes.items) }
     ensures refused { IfErr result
-        (IsRowFault (pixels_fault head (cell_at (fields_of row.now) 5))) }
+        (IsRecordFault (pixels_fault head (cell_at (fields_of row.now) 5))) }
 {
     let text = cell(row, 5);
     if text.len() as u64 == digits(head.depth) * area(head) {
@@ -41,25 +45,25 @@ pub fn read_codes(alloc: Global, head: PictureHead, row: &ByteRecord) -> Result<
         return read_runs(alloc, head, text);
     }
     match codes_fault(head, text_cell(row, 5)) {
-        Some(kind) => Err(RowFault::Wrong(kind)),
+        Some(kind) => Err(RecordFault::Wrong(kind)),
         // As many digits as are wanted, each of that depth, were put in their places above.
         None => unreachable!(),
     }
 }
 
 /// The codes of a text of runs, one for each pixel.
-fn read_runs(alloc: Global, head: PictureHead, text: &[u8]) -> Result<Vec<u8>, RowFault>
-    ensures right { OnOk result (runs_fault head.depth (area_of_head head) text.now ≡ None) }
+fn read_runs(alloc: Global, head: PictureHead, text: &[u8]) -> Result<Vec<u8>, RecordFault>
+    ensures valid { OnOk result (runs_fault head.depth (area_of_head head) text.now ≡ None) }
     ensures read { IfOk result (λ codes. run_codes head.depth text.now ≡ Some codes.items) }
     ensures count { IfOk result (λ codes. length codes.items ≡ head.width * head.height) }
     ensures range { IfOk result
         (λ codes. All (λ code. code < code_count head.depth) codes.items) }
     ensures refused { IfErr result
-        (IsRowFault (runs_fault head.depth (area_of_head head) text.now)) }
+        (IsRecordFault (runs_fault head.depth (area_of_head head) text.now)) }
 {
     let mut codes = vec![in alloc; 0; area(head) as usize]?;
     match put_runs(head.depth, text, codes.as_mut_slice()) {
         Ok(()) => Ok(codes),
-        Err(kind) => Err(RowFault::Wrong(kind)),
+        Err(kind) => Err(RecordFault::Wrong(kind)),
     }
 }

@@ -2,7 +2,6 @@ ghost use Rattle.std.specs.Prelude.{◌≡◌, ◌≤◌, ◌+◌, IfOk, ◌-◌
 ghost use Rattle.csv.specs.Records.{fields_of};
 ghost use Rattle.cue_records.specs.declared.limits.TheConstants.{MOST_HEIGHT, MOST_WIDTH};
 ghost use Rattle.cue_records.specs.CellFaults.{fault_in, number_fault, depth_fault, mode_fault, value_of, value_at, origin_cells as origin_cells_of, display_cells as display_cells_of, refresh_cells as refresh_cells_of, epoch_cells as epoch_cells_of, region_cells as region_cells_of, colour_cells as colour_cells_of, picture_cells as picture_cells_of, placing_cells as placing_cells_of, place_cells as place_cells_of, cue_cells as cue_cells_of};
-ghost use Rattle.cue_records.specs.Cells.{cell_at};
 ghost use Rattle.cue_records.specs.RowValues.{depth_with, region_in, colour_in, head_in, placing_in, is_through};
 ghost use Rattle.std.specs.Str.{bytes_eq};
 ghost use Rattle.std.specs.Prelude.{codes};

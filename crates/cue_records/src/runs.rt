@@ -39,20 +39,20 @@ pub(crate) fn put_runs(depth: Depth, text: &[u8], codes: &mut [u8]) -> Result<()
 {
     let mut start = 0;
     let mut filled = 0;
-    let mut right = true;
+    let mut valid = true;
     // A run begins behind each space, and so behind one at the end of the text.
     while start <= text.len() {
         let Some((run, length)) = first_run(depth, &text[start..]) else {
             return Err(ScriptKind::Number);
         };
         filled = put_run(run, codes, filled);
-        right &= u16::from(run.code) < depth.code_count();
+        valid &= u16::from(run.code) < depth.code_count();
         start += length + 1;
     }
     if filled != codes.len() {
         return Err(ScriptKind::Count);
     }
-    if !right {
+    if !valid {
         return Err(ScriptKind::CodeRange);
     }
     Ok(())

@@ -1,5 +1,5 @@
 -- The sets of an epoch, with one set more.
-use Rattle.std.proofs.Common.{◌≡◌, ◌∙◌, Bool, true, false, cond, List, [], ◌∷◌, Option, Some, None, refl, sym, ap}
+use Rattle.std.proofs.Common.{◌≡◌, ◌∙◌, true, false, cond, List, [], ◌∷◌, Option, Some, None, refl, ap}
 use Rattle.std.specs.Option.{option_or, option_map}
 use Rattle.stream_syntax.specs.declared.page.State.TheVariants.{Acquisition, ModeChange}
 use Rattle.decoder_model.specs.Contents.{has_state}

@@ -1,19 +1,17 @@
 -- Segments that change no pixel of a region: those of other regions, and objects that the region does not list, or has
 -- had since its last segment.
-use Rattle.std.proofs.Common.{◌≡◌, ◌∙◌, ◌⊎◌, inl, inr, ℕ, Bool, true, false, not, ◌==◌, cond, eqb, List, [], ◌∷◌, ◌++◌, Option, Some, None, refl, sym, ap, subst, arith}
+use Rattle.std.proofs.Common.{◌≡◌, ◌∙◌, ◌⊎◌, inl, inr, ℕ, Bool, true, false, not, ◌==◌, cond, eqb, List, [], ◌∷◌, ◌++◌, Option, Some, None, refl, sym, ap, subst}
 use Rattle.std.specs.Prelude.{All}
 use Rattle.std.specs.List.{list_any}
 use Rattle.std.specs.Option.{option_or}
-use Rattle.std.proofs.lemmas.Bool.Decides.{nat_tests}
 use Rattle.std.proofs.lemmas.List.Elements.{All-head, All-tail}
-use Rattle.stream_syntax.specs.PixelBlocks.{Part}
 use Rattle.stream_syntax.specs.Segments.{SegmentValue, of_page, of_region, of_clut, of_object, of_display, end_of_set, passed_over, Region, Object}
 use Rattle.stream_syntax.specs.declared.region.Listing.{Listing}
 use Rattle.decoder_model.specs.Contents.{where_passes, region_named, object_named, object_of}
 use Rattle.sub_base.specs.Lists.{first_given}
-use Rattle.decoder_model.specs.Pixels.{version_of_object, since_region, is_painting, painted_listings, code_by_listings, depth_of, code_by_segment, last_code}
+use Rattle.decoder_model.specs.Pixels.{version_of_object, since_region, painted_listings, code_by_listings, depth_of, code_by_segment, last_code}
 use Rattle.decoder_model.specs.Readings.{Content}
-use Rattle.decoder_model.specs.Taken.{Taken, has_new_version, taken_region, last_region}
+use Rattle.decoder_model.specs.Taken.{has_new_version, taken_region, last_region}
 use Rattle.decoder_model.proofs.Searches.{first_given-append}
 use Rattle.decoder_model.proofs.TakenSets.{since_behind, last_behind, other_fill, nothing_painted, not_listed, unlisted}
 

@@ -5,7 +5,7 @@ use Rattle.std.specs.List.{flat_map, range_with_len, concat}
 use Rattle.std.proofs.lemmas.List.{map-append}
 use Rattle.std.proofs.lemmas.List.Elements.{All-append, All-map}
 use Rattle.sub_base.specs.Colour.{clear}
-use Rattle.sub_base.specs.Picture.{Picture, IsPicture, code_at, rows_of}
+use Rattle.sub_base.specs.Picture.{Picture, IsPicture, code_at}
 use Rattle.sub_base.specs.Picture as pictures
 use Rattle.sub_base.specs.declared.colour.Colour.{Colour}
 use Rattle.sub_base.proofs.PictureLaws.{IsRow-row_of, get_or-row_of, concat-rows_of}

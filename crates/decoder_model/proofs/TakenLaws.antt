@@ -1,12 +1,12 @@
 -- Taken segments: the last taken and the last segment of an id have one version, and what segments of one set add.
-use Rattle.std.proofs.Common.{◌≡◌, ◌∙◌, ℕ, Bool, true, false, not, cond, eqb, List, [], ◌∷◌, ◌++◌, Option, Some, None, refl, sym, ap, subst, arith}
-use Rattle.std.specs.Option.{option_or, is_none}
+use Rattle.std.proofs.Common.{◌≡◌, ◌∙◌, ℕ, Bool, true, false, not, cond, eqb, List, [], ◌∷◌, Option, Some, None, refl, sym, ap, subst, arith}
+use Rattle.std.specs.Option.{option_or}
 use Rattle.std.proofs.lemmas.Bool.Decides.{nat_tests}
 use Rattle.stream_syntax.specs.Segments.{SegmentValue, of_page, of_region, of_clut, of_object, of_display, end_of_set, passed_over, Region, Clut}
-use Rattle.decoder_model.specs.Contents.{region_named, clut_named, region_of, clut_of, region_in, clut_in}
+use Rattle.decoder_model.specs.Contents.{region_named, clut_named}
 use Rattle.sub_base.specs.Lists.{first_given}
 use Rattle.decoder_model.specs.Readings.{Content}
-use Rattle.decoder_model.specs.Taken.{Taken, has_new_version, version_of_region, version_of_clut, is_taken, taken_among, taken_of, taken_region, last_region, last_clut}
+use Rattle.decoder_model.specs.Taken.{Taken, has_new_version, version_of_region, version_of_clut, is_taken, taken_among, last_region, last_clut}
 
 -- ---- one segment more
 

@@ -1,5 +1,5 @@
 -- What the segments of a set add to the taken segments of an epoch, and which of them leave a region as it is.
-use Rattle.std.proofs.Common.{◌≡◌, ◌∙◌, ◌⊎◌, inl, inr, ℕ, suc, ◌<◌, Bool, true, false, not, ◌&&◌, ◌==◌, cond, eqb, List, [], ◌∷◌, ◌++◌, filter, Option, Some, None, refl, sym, ap, subst, arith}
+use Rattle.std.proofs.Common.{◌≡◌, ◌∙◌, ◌⊎◌, inl, inr, ℕ, suc, Bool, true, false, not, ◌==◌, cond, eqb, List, [], ◌∷◌, ◌++◌, filter, Option, Some, None, refl, sym, ap, subst, arith}
 use Rattle.std.specs.Prelude.{All, take_while}
 use Rattle.std.specs.List.{AllPairs, list_any}
 use Rattle.std.specs.Option.{option_or, is_none}
@@ -8,13 +8,12 @@ use Rattle.std.proofs.lemmas.List.Elements.{All-head, All-tail, All-cons}
 use Rattle.std.proofs.lemmas.List.Sums.{take_while-cons}
 use Rattle.stream_syntax.specs.Segments.{SegmentValue, of_page, of_region, of_clut, of_object, of_display, end_of_set, passed_over, Region, Object}
 use Rattle.stream_syntax.specs.declared.region.Listing.{Listing}
-use Rattle.decoder_model.specs.Contents.{region_named, clut_named, object_named, object_of, display_of}
-use Rattle.sub_base.specs.Lists.{first_given, last_given}
-use Rattle.decoder_model.specs.Pixels.{version_of_object, since_region, is_painting, listings_naming, listings_by, painted_listings, code_by_listings, depth_of, code_by_segment, code_by_fill, last_code}
+use Rattle.decoder_model.specs.Contents.{region_named, clut_named, display_of}
+use Rattle.decoder_model.specs.Pixels.{since_region, is_painting, listings_naming, listings_by, painted_listings, code_by_fill}
 use Rattle.decoder_model.specs.Readings.{Content}
 use Rattle.decoder_model.specs.Taken.{Taken, has_new_version, version_of_region, version_of_clut, is_taken, taken_among, taken_region, last_region, last_clut, last_display}
 use Rattle.decoder_model.proofs.Searches.{first_given-append, first_given-all_none}
-use Rattle.decoder_model.proofs.TakenLaws.{none_taken, taken_first, held_first, taken_by_taken, region_value, clut_value}
+use Rattle.decoder_model.proofs.TakenLaws.{none_taken, taken_first, held_first, taken_by_taken}
 
 -- ---- lists by place
 

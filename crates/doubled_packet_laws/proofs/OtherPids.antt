@@ -1,13 +1,12 @@
 -- Packets of other PIDs bring nothing, and what comes then is as without them.
-use Rattle.std.proofs.Common.{◌≡◌, ◌∙◌, ℕ, zero, suc, ◌<◌, Bool, true, false, ◌&&◌, not, cond, eqb, List, [], ◌∷◌, ◌++◌, length, map, All, Option, Some, None, refl, sym, ap, subst, reverse, arith}
-use Rattle.std.specs.Prelude.{filter}
+use Rattle.std.proofs.Common.{◌≡◌, ◌∙◌, ℕ, suc, Bool, true, false, ◌&&◌, not, cond, eqb, List, [], ◌∷◌, ◌++◌, length, map, All, Some, None, refl, sym, ap, subst, reverse, arith}
 use Rattle.std.specs.List.{list_all}
 use Rattle.std.specs.Option.{is_none}
 use Rattle.std.proofs.lemmas.List.{map-append}
-use Rattle.std.proofs.lemmas.List.Elements.{All-cons, All-nil}
+use Rattle.std.proofs.lemmas.List.Elements.{All-cons}
 use Rattle.std.proofs.lemmas.List.Sums.{take_while-cons}
 use Rattle.stream_syntax.specs.TransportPackets.{pid_of, has_error_flag, has_payload, has_start_flag, counter_of, payload_of, packet_fault}
-use Rattle.stream_syntax.specs.Units.{is_payload, last_counter, succession, Breaks, payload_part, part_after, part_of, hand_after, unit_after, unit_at, payload_event, event_after, event_at}
+use Rattle.stream_syntax.specs.Units.{last_counter, succession, Breaks, payload_part, part_after, part_of, hand_after, unit_after, unit_at, payload_event, event_after, event_at}
 use Rattle.stream_syntax.specs.declared.transport.Event.TheVariants as event
 use Rattle.ts_packets.specs.Demuxing.{next_hand}
 use Rattle.ts_packets.proofs.UnitLemmas.{hand_push, counter_push}

@@ -1,5 +1,5 @@
 -- The end of a text that was put out whole.
-use Rattle.std.proofs.Common.{◌≡◌, subst, ℕ, true, false, List, [], ◌++◌, append-nil}
+use Rattle.std.proofs.Common.{◌≡◌, subst, ℕ, true, false, List, [], append-nil}
 use Rattle.std.specs.Io.KnownBytes.{Appends}
 use Rattle.sub_base.specs.Counts.{HasRisen}
 use Rattle.sub_base.specs.Endpoints.{AppendsPrefix}

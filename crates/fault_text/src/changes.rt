@@ -1,6 +1,6 @@
 //! The definitions of a set that say something else under the version that the last one had.
 
-ghost use Rattle.std.specs.Prelude.{◌≡◌, ◌<◌, ◌++◌, List, ℕ, Some, if◌then◌else◌, []};
+ghost use Rattle.std.specs.Prelude.{◌<◌, ◌++◌, List, ℕ, Some, if◌then◌else◌, []};
 ghost use Rattle.command_text.specs.Putting.{PutsOut};
 ghost use Rattle.decoder_model.specs.declared.set_end.SetEnd.TheVariants.{Shown};
 ghost use Rattle.display_sets.specs.Filling.{AreBytes};

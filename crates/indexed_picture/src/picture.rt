@@ -1,4 +1,4 @@
-ghost use Rattle.std.specs.Prelude.{◌≡◌, ◌↔◌, ℕ, ◌+◌, ◌*◌, ◌<◌, ◌≤◌, length, All, IsTrue, IsOk, IfOk, IfErr, MatchOption, replicate, slice_index};
+ghost use Rattle.std.specs.Prelude.{◌≡◌, ◌↔◌, ◌+◌, ◌*◌, ◌<◌, ◌≤◌, length, All, IsTrue, IsOk, IfOk, IfErr, MatchOption, replicate};
 ghost use Rattle.sub_base.specs.Depth.{code_count};
 ghost use Rattle.sub_base.specs.Picture.{IsPicture, IsRow, picture_of, row_of, top_field, bottom_field, HasEqualFields};
 ghost use Rattle.indexed_picture.specs.Making.{IsFaultOf, IsFirstOutside};

@@ -12,13 +12,14 @@ use Rattle.cue_records.specs.Records.{Record, is, kind_of, record_of}
 use Rattle.cue_list.specs.RowFaults.{fault_with}
 use Rattle.cue_records.specs.Rows.{Row}
 use Rattle.cue_list.specs.SeenReaders.{seen_of}
-use Rattle.cue_list.specs.TakenRows.{CanGoBack, IsRecordFault, IsScriptOf, Kept, Mark, StandsFor, TakesRow, nearest, next_fault}
+use Rattle.cue_records.specs.CellFaults.{IsRecordFault}
+use Rattle.cue_list.specs.TakenRows.{CanGoBack, IsScriptOf, Kept, Mark, StandsFor, TakesRow, nearest, next_fault}
 use Rattle.cue_list.specs.TickRows.{first_tick}
 use Rattle.cue_list.specs.declared.kept_rows.ScriptReader.{ScriptReader}
 use Rattle.cue_records.specs.declared.row_kind.RowKind.TheVariants as kinds
 use Rattle.cue_list.specs.declared.script.Script.{Script}
-use Rattle.cue_list.specs.declared.script_reader.RecordFault.{RecordFault}
-use Rattle.cue_list.specs.declared.script_reader.RecordFault.TheVariants as record_faults
+use Rattle.cue_records.specs.declared.record_fault.RecordFault.{RecordFault}
+use Rattle.cue_records.specs.declared.record_fault.RecordFault.TheVariants as record_faults
 use Rattle.cue_list.proofs.OneScript.{one_drawn}
 use Rattle.script_stream.specs.Refused.{IsSendCause}
 use Rattle.script_stream.specs.declared.faults.SendFault.{SendFault}

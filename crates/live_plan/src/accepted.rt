@@ -146,6 +146,6 @@ fn refusal(fault: RecordFault) -> RowFault
 {
     match fault {
         RecordFault::Memory => RowFault::Memory,
-        RecordFault::Wrong { kind } => RowFault::Script(kind),
+        RecordFault::Wrong(kind) => RowFault::Script(kind),
     }
 }

@@ -1,6 +1,6 @@
 //! The bytes of a script cut into pieces as they are read.
 
-ghost use Rattle.std.specs.Prelude.{◌≡◌, [], IfOk, OnErr};
+ghost use Rattle.std.specs.Prelude.{◌≡◌, [], IfOk};
 ghost use Rattle.live_plan.specs.Pieces.{turned as turned_by};
 ghost use Rattle.live_plan.specs.Private.Cutting.{IsFound, IsTakenUp};
 

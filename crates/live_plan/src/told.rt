@@ -1,4 +1,4 @@
-ghost use Rattle.std.specs.Prelude.{◌≡◌, ◌<◌, ◌≤◌, ◌^◌, OnErr, OnOk};
+ghost use Rattle.std.specs.Prelude.{◌≡◌, ◌<◌, ◌≤◌, OnErr, OnOk};
 ghost use Rattle.sub_base.specs.Counts.{HasRisen};
 ghost use Rattle.sub_base.specs.Endpoints.{Wrote, WrotePrefix};
 ghost use Rattle.live_plan.specs.LiveOutcome.{refused_line as refused_line_of};

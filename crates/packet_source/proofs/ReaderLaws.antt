@@ -8,7 +8,6 @@ use Rattle.std.proofs.KnownBytes.{Consumes-kept, Consumes-trans}
 use Rattle.std.proofs.lemmas.List.{drop-drop, drop-take}
 use Rattle.std.proofs.lemmas.List.Edits.{take-paste}
 use Rattle.std.specs.List.{copy_within}
-use lib.Seq.{paste}
 use Rattle.sub_base.specs.Counts.{counted}
 use Rattle.sub_base.specs.Endpoints.{Supplied}
 use Rattle.packet_source.specs.Private.Filling.{HasRead, HasReadNothing, given_up}

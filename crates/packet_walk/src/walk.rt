@@ -1,4 +1,4 @@
-ghost use Rattle.std.specs.Prelude.{◌≡◌, ◌+◌, ◌<◌, ◌≤◌, ℕ, false, List, [], length, take};
+ghost use Rattle.std.specs.Prelude.{◌≡◌, ◌+◌, ◌<◌, ◌≤◌, ℕ, false, [], length, take};
 ghost use Rattle.std.specs.Prelude.{slice_index_or, Some, IfErr, OnOk};
 ghost use Rattle.packet_source.specs.InHand.{nothing_read};
 ghost use Rattle.packet_source.specs.Packets.{HasGivenInHand};

@@ -1,6 +1,6 @@
 -- The regions of a page that do not lie inside the part of the display in which regions stand (EN 300 743, clauses
 -- 7.2.1 and 7.2.2): what passes its edges is not seen.
-use Rattle.std.specs.Prelude.{ℕ, ◌+◌, ◌-◌, Bool, false, not, Option, Some, None, option_map}
+use Rattle.std.specs.Prelude.{◌+◌, ◌-◌, Bool, false, not, Option, Some, None, option_map}
 use Rattle.stream_syntax.specs.declared.display.Window.{Window}
 use Rattle.stream_syntax.specs.declared.page.PageEntry.{PageEntry}
 use Rattle.stream_syntax.specs.declared.region.RegionHead.{RegionHead}

@@ -1,7 +1,7 @@
 //! How many nodes the composition memory needs for the regions and CLUTs of a set (EN 300 743,
 //! clause 5.2), before anything is changed.
 
-ghost use Rattle.std.specs.Prelude.{◌≡◌, ◌+◌, ◌<◌, ◌^◌, ◌==◌, ◌∷◌, ◌++◌, [], ℕ, List, None, Some, filter, reverse, if◌then◌else◌, length, map, min, option_map, slice_index_or};
+ghost use Rattle.std.specs.Prelude.{◌≡◌, ◌+◌, ◌<◌, ◌^◌, ◌==◌, ◌∷◌, ◌++◌, [], ℕ, List, None, Some, filter, reverse, if◌then◌else◌, map, min, option_map, slice_index_or};
 ghost use Rattle.std.specs.Option.{option_or};
 ghost use Rattle.stream_syntax.specs.Segments.{of_clut};
 ghost use Rattle.decoder_model.specs.Readings.{Content};

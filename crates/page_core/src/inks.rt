@@ -1,7 +1,6 @@
 //! The colours of all CLUTs, kept ready: a row of a region needs no table of its own.
 
-ghost use Rattle.std.specs.Prelude.{◌≡◌, ◌+◌, ◌<◌, ◌%◌, ◌*◌, [], ℕ, length, slice_set, slice_range, IfOk};
-ghost use Rattle.sub_base.specs.Colour.{default_of};
+ghost use Rattle.std.specs.Prelude.{◌≡◌, ◌+◌, ◌<◌, ◌%◌, ◌*◌, [], length, slice_set, slice_range, IfOk};
 ghost use Rattle.sub_base.specs.Depth.{code_count};
 ghost use Rattle.page_core.specs.Private.Inks.{AreDefaults, default_ink as default_of_index, ink_count};
 ghost use Rattle.page_core.specs.Memory.{AreInks, ink_place as place_of, first_of_table as first_of, colours_of_clut};

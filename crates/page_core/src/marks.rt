@@ -1,8 +1,7 @@
 //! Marks at the entries of the tables of all CLUTs: they tell which are set without a walk over
 //! those that are, and which are counted already.
 
-ghost use Rattle.std.specs.Prelude.{◌≡◌, ◌<◌, [], ℕ, length, map, replicate, slice_index_or, slice_set, IfOk};
-ghost use Rattle.page_core.specs.Private.Inks.{ink_count};
+ghost use Rattle.std.specs.Prelude.{◌≡◌, ◌<◌, [], length, map, replicate, slice_index_or, slice_set, IfOk};
 ghost use Rattle.page_core.specs.Private.Marks.{AreMarked, AreSwept, IsStamp, all_set, mark_by, uncounted};
 ghost use Rattle.page_core.specs.Memory.{ink_place as place_of};
 ghost use Rattle.page_core.specs.declared.marks.Mark.TheVariants.{Unset as unset};

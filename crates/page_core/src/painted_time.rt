@@ -4,7 +4,6 @@ ghost use Rattle.std.specs.Prelude.{◌≡◌, ◌*◌, ◌≤◌, ◌<◌, ◌^
 ghost use Rattle.sub_base.specs.Pace.{painting_ticks};
 ghost use Rattle.decoder_model.specs.Painting.{set_painting};
 ghost use Rattle.decoder_model.specs.Readings.{Content};
-ghost use Rattle.segments.specs.Contents.{region_value};
 ghost use Rattle.page_core.specs.Handed.{AreContents};
 
 use crate::walking::next_region;

@@ -1,6 +1,6 @@
 //! The tests of the regions of a set, by what the epoch had before the set.
 
-ghost use Rattle.std.specs.Prelude.{◌≡◌, ◌∷◌, ◌-◌, ◌+◌, ◌*◌, ◌<◌, ◌^◌, [], List, None, filter, option_map};
+ghost use Rattle.std.specs.Prelude.{◌≡◌, ◌-◌, ◌+◌, ◌*◌, ◌<◌, ◌^◌, [], List, None, filter};
 ghost use Rattle.sub_base.specs.Depth.{packed_length};
 ghost use Rattle.sub_base.specs.declared.profile.Profile.{Profile};
 ghost use Rattle.decoder_model.specs.Faults.{first_fault_by, has_same_shape as same_shape, pixels_full, region_changed};

@@ -1,5 +1,4 @@
 ghost use Rattle.std.specs.Prelude.{◌≡◌, ◌<◌, List, ℕ, true, length, slice_set, false, slice_index_or, None, Option, Some, [], if◌then◌else◌, ◌∷◌, option_map, OnOk};
-ghost use Rattle.stream_syntax.specs.Segments.{SegmentValue};
 ghost use Rattle.decoder_model.specs.Faults.{contents_in, twice_among};
 ghost use Rattle.decoder_model.specs.Readings.{Content, Reading};
 ghost use Rattle.segments.specs.Contents.{contents, page_value, display_value};

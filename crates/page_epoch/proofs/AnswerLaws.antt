@@ -1,6 +1,6 @@
 -- A plan and a fault exclude each other, and there is one fault: what is planned up to an instant is determined, as far
 -- as a receiver's needs go.
-use Rattle.std.proofs.Common.{◌≡◌, ◌≢◌, ◌∙◌, ◌⊎◌, inl, inr, refl, sym, ap, subst, ℕ, zero, suc, ◌+◌, ◌<◌, ◌≤◌, nat_le, Bool, true, false, cond, List, [], ◌∷◌, ◌++◌, length, map, filter, reverse, take, get_or, All, Option, Some, option_map, arith, Result, Ok, Err, IfOk, IfErr}
+use Rattle.std.proofs.Common.{◌≡◌, ◌≢◌, ◌∙◌, ◌⊎◌, inl, inr, refl, sym, ap, subst, ℕ, zero, suc, ◌+◌, ◌<◌, ◌≤◌, nat_le, Bool, true, false, cond, List, [], ◌∷◌, length, map, filter, reverse, take, get_or, Option, Some, option_map, arith, Result, Ok, Err, IfOk, IfErr}
 use Rattle.std.specs.Prelude.{slice_get, ⊤}
 use Rattle.std.specs.List.{flat_map, Contains, take_while}
 use Rattle.std.specs.List.Sorted.{IsStrictlyIncreasing}

@@ -1,5 +1,5 @@
 -- A script has one plan: what the definitions say of a set determines it, behind the sets before it.
-use Rattle.std.proofs.Common.{◌≡◌, ◌≢◌, ◌∙◌, ◌⊎◌, inl, inr, refl, sym, ap, subst, ℕ, ◌==◌, ◌+◌, ◌<◌, ◌≤◌, Bool, cond, List, [], ◌∷◌, length, map, filter, reverse, take, get_or, All, Some, arith, Result, Ok, Err, IfOk, IfErr}
+use Rattle.std.proofs.Common.{◌≡◌, ◌≢◌, ◌∙◌, ◌⊎◌, inl, inr, refl, sym, ap, subst, ℕ, ◌==◌, ◌<◌, ◌≤◌, Bool, cond, List, [], ◌∷◌, length, map, filter, reverse, get_or, All, Some, arith, Result, Ok, Err, IfOk, IfErr}
 use Rattle.std.specs.Prelude.{slice_get, MatchResult}
 use Rattle.std.specs.List.{flat_map, Contains, AllPairs}
 use Rattle.std.specs.List.Sorted.{IsPermutation, IsNonDecreasing, IsNonDecreasingBy}
@@ -25,11 +25,10 @@ use Rattle.page_epoch.specs.declared.fault.PlanFault.TheVariants.{Memory, Displa
 use Rattle.page_epoch.specs.declared.plan.Plan.{Plan}
 use Rattle.page_epoch.specs.declared.planned_set.PlannedSet.{PlannedSet}
 use Rattle.page_epoch.specs.declared.planned_set.SentRegion.{SentRegion}
-use Rattle.page_epoch.specs.Instants.{is_named, AreInstants}
+use Rattle.page_epoch.specs.Instants.{is_named}
 use Rattle.page_epoch.specs.Live.{live_places, times}
 use Rattle.page_epoch.specs.Plan.{IsEpochAt, IsCarried, IsNextSet, AreFirstSets, ArePlanned, IsPlan}
 use Rattle.page_epoch.specs.Refusals.{IsPlanCause}
-use Rattle.page_epoch.specs.SentCluts.{sent_cluts}
 use Rattle.page_epoch.specs.SentRegions.{AreOrdered, AreSentRegions, AreShown, listed_cues, sent_region}
 use Rattle.page_epoch.specs.States.{is_due, last_entry, page_version, instants_of, seen_of, state_of}
 use Rattle.page_epoch.proofs.AnswerLaws.{IsPast, one_place, one_row, past_of, plan_or_fault, same_instants, same_time, some_same}

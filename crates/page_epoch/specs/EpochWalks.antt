@@ -1,5 +1,5 @@
 -- Where the walk over the instants stands in an epoch. The instants of the epoch so far are given, the latest first.
-use Rattle.std.specs.Prelude.{◌≡◌, ◌≢◌, ℕ, ◌+◌, ◌%◌, ◌^◌, ◌<◌, ◌≤◌, Bool, true, false, not, ◌&&◌, ◌⊎◌, if◌then◌else◌, List, [], ◌∷◌, length, All, Some, slice_get}
+use Rattle.std.specs.Prelude.{◌≡◌, ◌≢◌, ℕ, ◌+◌, ◌%◌, ◌^◌, ◌<◌, ◌≤◌, Bool, true, false, ◌⊎◌, if◌then◌else◌, List, [], ◌∷◌, length, All, Some, slice_get}
 use Rattle.stream_syntax.specs.declared.page.State.{State}
 use Rattle.cue_records.specs.declared.limits.TheConstants.{MOST_COLOURS, MOST_CUES, MOST_EPOCHS, MOST_REGIONS}
 use Rattle.cue_list.specs.declared.epoch.Epoch.{Epoch}
@@ -10,7 +10,6 @@ use Rattle.page_epoch.specs.declared.epoch_state.EpochState.{EpochState}
 use Rattle.page_epoch.specs.declared.epoch_state.EpochWalk.{EpochWalk}
 use Rattle.page_epoch.specs.declared.epoch_state.EpochStep.{EpochStep}
 use Rattle.page_epoch.specs.declared.epoch_state.SetHead.{SetHead}
-use Rattle.page_epoch.specs.declared.instants.Instant.{Instant}
 use Rattle.std.specs.List.{AllPairs}
 use Rattle.page_epoch.specs.Instants.{named_ticks}
 use Rattle.page_epoch.specs.EpochStates.{region_states, changed_versions, is_first, IsReachedBy, IsSmallRegionState, IsSmallVersion}

@@ -1,5 +1,5 @@
 -- How a set stands to the sets before it, which are given the latest first.
-use Rattle.std.specs.Prelude.{ℕ, ◌+◌, ◌%◌, nat_le, Bool, false, not, ◌&&◌, ◌||◌, if◌then◌else◌, List, ◌∷◌, map, drop, reverse, Option, Some, None, find, count_by, take_while}
+use Rattle.std.specs.Prelude.{ℕ, ◌+◌, ◌%◌, nat_le, Bool, false, not, ◌||◌, if◌then◌else◌, List, ◌∷◌, map, drop, reverse, Option, Some, None, find, count_by, take_while}
 use Rattle.stream_syntax.specs.declared.page.State.{State}
 use Rattle.stream_syntax.specs.declared.page.State.TheVariants.{Normal, Acquisition, ModeChange}
 use Rattle.cue_list.specs.declared.epoch.Epoch.{Epoch}

@@ -1,7 +1,7 @@
 //! `pairdump`: the pictures of one of two languages.
 
-ghost use Rattle.std.specs.Prelude.{◌≡◌, ◌≢◌, ◌≤◌, IfSome, None, drop, true};
-ghost use Rattle.command_words.specs.Ticks.{are_rising as are_ticks_rising, asked_ticks};
+ghost use Rattle.std.specs.Prelude.{◌≡◌, IfSome, None};
+ghost use Rattle.command_words.specs.Ticks.{asked_ticks};
 ghost use Rattle.sub_base.specs.Endpoints.{Supplied};
 ghost use Rattle.sub_base.specs.Seen.{seen};
 ghost use Rattle.sub_base.specs.ToolOutcome.{IsToolCause};

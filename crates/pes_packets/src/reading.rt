@@ -1,7 +1,6 @@
-ghost use Rattle.std.specs.Prelude.{◌≡◌, ℕ, ◌+◌, ◌*◌, ◌/◌, ◌%◌, ◌^◌, ◌<◌, ◌≤◌, List, length, drop, slice_index, None, Some, Ok, Err, IsOkAnd, IfNone, IfOk, IfErr};
+ghost use Rattle.std.specs.Prelude.{◌≡◌, ℕ, ◌+◌, ◌/◌, ◌^◌, ◌<◌, ◌≤◌, List, length, slice_index, None, Some, Ok, Err, IsOkAnd, IfNone, IfOk, IfErr};
 ghost use Rattle.std.specs.Bool.{OnFalse};
-ghost use Rattle.byteorder.specs.Endian.{big_number};
-ghost use Rattle.stream_syntax.specs.Pes.{Gives, IsPes, field_place, pes_fault, pes_of, pts_in, segments_in};
+ghost use Rattle.stream_syntax.specs.Pes.{Gives, IsPes, field_place, pes_fault, pes_of, pts_in};
 ghost use Rattle.stream_syntax.specs.Pes.{lacks_prefix as prefix_fails, has_bad_head as head_fails, has_bad_header_length as header_length_fails, lacks_marker as marker_fails, is_other_field as field_fails};
 
 use byteorder::{BigEndian, ByteOrder};

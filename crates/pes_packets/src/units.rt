@@ -1,4 +1,4 @@
-ghost use Rattle.std.specs.Prelude.{◌≡◌, ℕ, ◌+◌, ◌^◌, ◌<◌, ◌≤◌, ◌↔◌, IsTrue, List, [], ◌∷◌, ◌++◌, map, length, All, OnOk, OnErr, IfSome, IfNone, option_to_list, vec_capacity};
+ghost use Rattle.std.specs.Prelude.{◌≡◌, ℕ, ◌+◌, ◌^◌, ◌<◌, ◌≤◌, ◌↔◌, IsTrue, List, [], ◌∷◌, ◌++◌, map, length, All, OnOk, OnErr, IfSome, option_to_list, vec_capacity};
 ghost use Rattle.pes_packets.specs.Units.{IsSharedOut, IsSegmentLength, IsOpenAfter, AreUnitLengths, unit_length};
 
 use sub_base::{NoMemory, UNIT_ROOM};

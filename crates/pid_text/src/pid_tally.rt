@@ -1,6 +1,6 @@
 //! What is counted of the PES packets of one PID.
 
-ghost use Rattle.std.specs.Prelude.{◌≡◌, [], ◌∷◌, ◌++◌, IfOk, List};
+ghost use Rattle.std.specs.Prelude.{[], ◌∷◌, ◌++◌, IfOk, List};
 ghost use Rattle.pid_text.specs.PidUnits.{SubtitleUnit, heads_of, subtitles_in};
 ghost use Rattle.pid_text.specs.Private.Listing.{IsListing};
 ghost use Rattle.pid_text.specs.Private.Tallying.{HasTallied, with_one};

@@ -3,7 +3,6 @@
 ghost use Rattle.std.specs.Prelude.{◌≡◌, ◌≤◌, length};
 ghost use Rattle.std.specs.List.{flat_map};
 ghost use Rattle.command_text.specs.Putting.{PutsOut};
-ghost use Rattle.pid_text.specs.PidText.{more_where, page_line as page_line_of, pid_line as pid_line_of};
 ghost use Rattle.pid_text.specs.PidText.{units_part, times_part};
 ghost use Rattle.pid_text.specs.Private.Telling.{entry_text, listing_text, slot_text, tally_text};
 

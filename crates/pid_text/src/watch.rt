@@ -1,8 +1,7 @@
 //! What is read of one PID.
 
-ghost use Rattle.std.specs.Prelude.{◌≡◌, ℕ, [], ◌∷◌, ◌++◌, IfOk, List, MatchBool};
-ghost use Rattle.stream_syntax.specs.TransportPackets.{packet_fault, pid_of};
-ghost use Rattle.pid_text.specs.PidUnits.{is_own};
+ghost use Rattle.std.specs.Prelude.{◌≡◌, [], IfOk};
+ghost use Rattle.stream_syntax.specs.TransportPackets.{pid_of};
 ghost use Rattle.pid_text.specs.Private.Watching.{BeginsWith, FeedsOn, IsWatch, TakesIn};
 
 use crate::begins::begins_private;

@@ -1,6 +1,6 @@
 //! Pixel code strings painted into rows of a region.
 
-ghost use Rattle.std.specs.Prelude.{◌≡◌, ℕ, ◌+◌, ◌*◌, ◌^◌, ◌<◌, ◌≤◌, List, ◌++◌, length};
+ghost use Rattle.std.specs.Prelude.{◌≡◌, ℕ, ◌+◌, ◌*◌, ◌^◌, ◌<◌, List, ◌++◌, length};
 ghost use Rattle.stream_syntax.specs.PixelCodes.{Code, IsString};
 ghost use Rattle.string_painting.specs.Painting.{IsMapTable, laid_over, pixels_of_codes};
 ghost use Rattle.pixel_store.specs.Private.Extents.{Fits};

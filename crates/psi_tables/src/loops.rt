@@ -1,6 +1,6 @@
 //! The loops of programme tables: descriptors, streams and entries one after another.
 
-ghost use Rattle.std.specs.Prelude.{◌≡◌, ◌==◌, ◌<◌, [], length, MatchOption, find, option_map};
+ghost use Rattle.std.specs.Prelude.{◌≡◌, ◌==◌, ◌<◌, [], length, MatchOption};
 ghost use Rattle.std.specs.List.{list_any};
 ghost use Rattle.psi_tables.specs.Loops.{are_descriptors, are_entries, are_streams, descriptors_of, entries_of, streams_of};
 ghost use Rattle.psi_tables.specs.Services.{is_subtitles, is_subtitling, pid_listed, subtitle_pid};

@@ -1,4 +1,4 @@
-ghost use Rattle.std.specs.Prelude.{◌≡◌, ℕ, ◌+◌, ◌*◌, ◌^◌, ◌<◌, ◌≤◌, max, length, slice_index, All};
+ghost use Rattle.std.specs.Prelude.{◌≡◌, ℕ, ◌+◌, ◌^◌, ◌<◌, ◌≤◌, max, length, All};
 ghost use Rattle.schedule.specs.Packets.{sum_below, size_of};
 ghost use Rattle.sub_base.specs.Pace.{tick_of, IsSound};
 ghost use Rattle.sub_base.specs.declared.profile.TheConstants.{LONGEST_STEP};

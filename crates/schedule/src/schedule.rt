@@ -1,6 +1,6 @@
-ghost use Rattle.std.specs.Prelude.{◌≡◌, ◌≢◌, ℕ, ◌+◌, ◌*◌, ◌^◌, ◌<◌, ◌≤◌, max, length, slice_index, IfOk, IfErr, MatchResult, All};
+ghost use Rattle.std.specs.Prelude.{◌≡◌, ◌≢◌, ◌^◌, ◌<◌, length, slice_index, IfOk, IfErr, MatchResult, All};
 ghost use Rattle.std.specs.List.Sorted.{IsStrictlyIncreasing};
-ghost use Rattle.sub_base.specs.Pace.{tick_of, pace_of, IsSending, IsSound};
+ghost use Rattle.sub_base.specs.Pace.{pace_of, IsSending};
 ghost use Rattle.schedule.specs.Slots.{slots_of as slots_of_set, Timetable, IsSchedule, IsOnTime, IsLoad};
 ghost use Rattle.schedule.specs.Arrivals.{IsArrival, IsEarliest, IsHopeless};
 ghost use Rattle.schedule.specs.Refusals.{IsScheduleCause, AnswersScheduleFault};

@@ -1,14 +1,14 @@
 -- Each set that a receiver gets from its entry on has a packet before it.
-use Rattle.std.proofs.Common.{◌≡◌, ◌∙◌, ℕ, zero, suc, ◌-◌, ◌<◌, ◌≤◌, ◌&&◌, ◌==◌, Bool, true, false, cond, List, [], ◌∷◌, length, refl, sym, ap, subst, arith}
+use Rattle.std.proofs.Common.{◌≡◌, ◌∙◌, ℕ, zero, suc, ◌-◌, ◌<◌, ◌≤◌, ◌&&◌, ◌==◌, Bool, true, false, List, [], ◌∷◌, length, refl, sym, ap, subst, arith}
 use Rattle.std.specs.Bool.{if◌then◌else◌}
 use Rattle.std.specs.Prelude.{nat_le, nat_lt}
 use Rattle.std.proofs.lemmas.Bool.Decides.{nat_tests}
 use Rattle.sub_base.specs.declared.load.WriteLoad.{WriteLoad}
 use Rattle.buffer_model.specs.Calls.{Call, Arrived, SetWhole}
 use Rattle.buffer_model.specs.Within.{AllHeard, has_arrived}
-use Rattle.schedule.specs.Packets.{load_of, packets_of, payload_of}
+use Rattle.schedule.specs.Packets.{packets_of, payload_of}
 use Rattle.schedule.specs.Slots.{slot_of}
-use Rattle.scheduled_level_laws.specs.EnteredCalls.{Entry, from_of, counts, packet_calls, heard_load, is_whole, set_calls, calls_of_set, entered_calls}
+use Rattle.scheduled_level_laws.specs.EnteredCalls.{Entry, from_of, counts, packet_calls, heard_load, is_whole, calls_of_set, entered_calls}
 use Rattle.scheduled_level_laws.proofs.EnteredLevels.{IsEntry}
 use Rattle.scheduled_level_laws.proofs.EnteredSums.{last_packet}
 

@@ -1,5 +1,5 @@
 -- What a reader of sections does at a packet of each kind.
-use Rattle.std.proofs.Common.{◌≡◌, ◌∙◌, ℕ, true, false, Bool, cond, nat_eq, List, [], ◌∷◌, ◌++◌, length, take, drop, Option, Some, None, refl, sym, ap, subst}
+use Rattle.std.proofs.Common.{◌≡◌, ◌∙◌, ℕ, true, false, Bool, cond, nat_eq, List, ◌∷◌, length, take, drop, Option, Some, None, refl, sym, ap, subst}
 use Rattle.std.specs.Prelude.{find, option_map, nat_lt}
 use Rattle.stream_syntax.specs.TransportPackets.{pid_of, has_payload, has_start_flag, counter_of, payload_of}
 use Rattle.stream_syntax.specs.Units.{succession}

@@ -1,7 +1,7 @@
 ghost use Rattle.std.specs.Prelude.{◌≡◌, ◌≤◌, length};
 ghost use Rattle.segments.specs.Contents.{display_value};
 ghost use Rattle.segments.specs.Reading.{GivesReading, display_at, window_in};
-ghost use Rattle.stream_syntax.specs.SegmentTests.{has_window, is_window};
+ghost use Rattle.stream_syntax.specs.SegmentTests.{is_window};
 
 use crate::fault::bad_length;
 use crate::word::{is_set, read_word};

@@ -14,7 +14,7 @@ use Rattle.sub_base.specs.declared.status.ToolStatus.{ToolStatus}
 use Rattle.sub_base.specs.declared.status.ToolStatus.TheVariants as tool
 use Rattle.sub_base.specs.declared.status.Which.TheVariants as which
 use Rattle.command_text.specs.Closing.{Closes}
-use Rattle.command_text.specs.Putting.{Buffered, IsPutOut}
+use Rattle.command_text.specs.Putting.{Buffered}
 use Rattle.packet_source.specs.Packets.{Gave}
 use Rattle.packet_source.specs.declared.stream_end.StreamEnd.{StreamEnd}
 use Rattle.packet_source.specs.declared.stream_end.StreamEnd.TheVariants as stream

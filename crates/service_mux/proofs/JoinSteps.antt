@@ -1,5 +1,5 @@
 -- Two streams that are joined, from moment to moment.
-use Rattle.std.proofs.Common.{◌≡◌, ◌≤◌, ◌⊎◌, inl, inr, ℕ, ◌-◌, ◌*◌, true, List, [], length, All, refl, sym, subst, append-nil, arith}
+use Rattle.std.proofs.Common.{◌≡◌, ◌≤◌, ◌⊎◌, inl, inr, ℕ, ◌-◌, ◌*◌, true, List, [], length, refl, sym, subst, append-nil, arith}
 use Rattle.std.specs.List.{concat}
 use Rattle.std.proofs.lemmas.List.Elements.{All-nil}
 use Rattle.sub_base.specs.Endpoints.{Received, Supplied}

@@ -1,7 +1,5 @@
 -- The packets of a stream that were passed, and those that the source gave.
-use Rattle.std.proofs.Common.{◌≡◌, ◌∙◌, ◌≤◌, ◌<◌, ◌⊎◌, inl, inr, ℕ, zero, suc, ◌+◌, ◌*◌, ◌/◌, Bool, true, false, List, [], ◌∷◌, ◌++◌, length, length-append, length-take-le, take, drop, get_or, Option, Some, None, refl, sym, ap, subst, append-nil, append_assoc, slice_get, arith}
-use Rattle.std.specs.Bool.{if◌then◌else◌}
-use Rattle.std.specs.List.{flat_map}
+use Rattle.std.proofs.Common.{◌≡◌, ◌∙◌, ◌≤◌, ◌<◌, ℕ, ◌+◌, ◌*◌, true, false, List, [], ◌∷◌, ◌++◌, length, length-append, length-take-le, take, drop, get_or, Option, Some, sym, ap, subst, append-nil, append_assoc, slice_get, arith}
 use Rattle.std.proofs.lemmas.Grind.{flat_map-append}
 use Rattle.std.proofs.lemmas.List.{nil_from_length, take-append-drop, take_all, take_more}
 use Rattle.std.proofs.KnownBytes.{Consumes-nil}
@@ -12,7 +10,7 @@ use Rattle.sub_base.specs.Endpoints.{Supplied}
 use Rattle.packet_source.specs.InHand.{InHand, read_count, rest_of, whole_packets}
 use Rattle.packet_source.specs.Packets.{Gave, HasGivenInHand, IsWithin, stream_length}
 use Rattle.packet_source.specs.declared.limits.TheConstants.{STREAM_LIMIT}
-use Rattle.packet_source.proofs.GaveLaws.{AreLong, Gave-more, Gave-up_to, Gave-whole_packets, bytes_of, length-whole_packets, stream_length-more, whole_packets-rest_of, whole_packets_long}
+use Rattle.packet_source.proofs.GaveLaws.{AreLong, Gave-more, Gave-up_to, bytes_of, length-whole_packets, stream_length-more, whole_packets-rest_of, whole_packets_long}
 use Rattle.service_mux.specs.Private.Lanes.{HasEnded, HasPassed, IsLaneStop, IsSound, Passes, PassesReached, as_list}
 use Rattle.service_mux.specs.StreamReads.{IsRead}
 use Rattle.service_mux.specs.declared.lane.Lane.{Lane}

@@ -1,5 +1,5 @@
 -- A multiplex gives the packets of its services again.
-use Rattle.std.proofs.Common.{◌≡◌, ◌≢◌, ◌∙◌, ◌≤◌, ◌<◌, ℕ, zero, suc, ◌+◌, ◌-◌, ◌*◌, ◌/◌, ◌%◌, ◌^◌, max, Bool, true, false, not, cond, ◌&&◌, ◌||◌, List, [], ◌∷◌, ◌++◌, length, length-append, get_or, take, drop, replicate, Option, Some, None, All, refl, sym, ap, ap₂, subst, append-nil, append_assoc, slice_get, arith, nat_eq, nat_lt}
+use Rattle.std.proofs.Common.{◌≡◌, ◌≢◌, ◌∙◌, ◌≤◌, ◌<◌, ℕ, zero, suc, ◌+◌, ◌-◌, ◌*◌, ◌/◌, ◌%◌, ◌^◌, max, Bool, true, false, not, cond, ◌&&◌, ◌||◌, List, [], ◌∷◌, ◌++◌, length, length-append, get_or, take, drop, replicate, Option, Some, None, refl, sym, ap, ap₂, subst, append-nil, append_assoc, slice_get, arith, nat_eq, nat_lt}
 use Rattle.std.specs.Prelude.{◌==◌, filter, find, option_map, option_and_then}
 use Rattle.std.specs.Bool.{if◌then◌else◌}
 use Rattle.std.specs.Option.{option_or}
@@ -8,11 +8,9 @@ use Rattle.std.proofs.lemmas.Bool.{eq-eqb, ne_eqb, le-ltb}
 use Rattle.std.proofs.lemmas.Bool.Decides.{nat_tests}
 use Rattle.std.proofs.lemmas.List.{drop_at}
 use Rattle.std.proofs.lemmas.List.Elements.{filter-append}
-use Rattle.byteorder.specs.Endian.{big_bytes}
 use Rattle.sub_base.specs.Lists.{first_given}
 use Rattle.stream_syntax.specs.TransportPackets.{control_of, counter_of, has_bad_field, has_error_flag, has_payload, has_start_flag, null_packet, packet_fault, payload_of, pid_of, written_packet}
 use Rattle.stream_syntax.specs.Units.{Next, succession}
-use Rattle.stream_syntax.specs.declared.transport.PacketFault.{PacketFault}
 use Rattle.stream_syntax.specs.declared.transport.PacketFault.TheVariants as faults
 use Rattle.ts_packets.proofs.WrittenPackets.{written_says}
 use Rattle.psi_tables.specs.Laws.{IsService}

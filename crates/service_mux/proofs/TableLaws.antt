@@ -1,5 +1,5 @@
 -- Tables that are sent again and again.
-use Rattle.std.proofs.Common.{◌≡◌, ◌≢◌, ◌∙◌, ◌≤◌, ℕ, zero, suc, ◌+◌, ◌-◌, ◌/◌, ◌%◌, true, false, List, [], ◌∷◌, ◌++◌, length, length-append, replicate, refl, sym, ap, ap₂, subst, append-nil, arith}
+use Rattle.std.proofs.Common.{◌≡◌, ◌≢◌, ◌∙◌, ◌≤◌, ℕ, zero, suc, ◌+◌, ◌-◌, ◌/◌, ◌%◌, true, List, [], ◌∷◌, ◌++◌, length, length-append, replicate, refl, sym, ap, subst, append-nil, arith}
 use Rattle.std.specs.Bool.{if◌then◌else◌}
 use Rattle.std.specs.List.{concat}
 use Rattle.std.specs.Prelude.{◌==◌}
@@ -11,7 +11,7 @@ use Rattle.command_text.specs.Putting.{Buffered, PutsOut}
 use Rattle.command_text.proofs.PutLaws.{PutsOut-both}
 use Rattle.sub_base.specs.Endpoints.{Received}
 use Rattle.service_mux.specs.Multiplex.{table_packet, table_packets, table_payload, turn_packet}
-use Rattle.service_mux.specs.Private.Frames.{HasTurned, HaveNotTurned, HaveTurned}
+use Rattle.service_mux.specs.Private.Frames.{HasTurned, HaveNotTurned}
 use Rattle.service_mux.specs.declared.frames.Multiplexer.{Multiplexer}
 use Rattle.service_mux.specs.declared.mux_words.ServicePair.{ServicePair}
 use Rattle.service_mux.specs.declared.table.Table.{Table}

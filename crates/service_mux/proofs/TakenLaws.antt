@@ -1,10 +1,9 @@
 -- What sections name in packets, one packet after the other.
 use Rattle.std.proofs.Common.{◌≡◌, ◌∙◌, ℕ, true, false, Bool, cond, List, [], ◌∷◌, ◌++◌, Option, Some, None, refl, sym, ap, append-nil}
-use Rattle.std.specs.Prelude.{filter, option_and_then, option_map}
+use Rattle.std.specs.Prelude.{filter, option_and_then}
 use Rattle.std.specs.List.{concat}
 use Rattle.std.proofs.lemmas.List.Elements.{filter-append}
 use Rattle.std.proofs.lemmas.List.Folds.{concat-append}
-use Rattle.sub_base.specs.Lists.{first_given}
 use Rattle.psi_tables.specs.Services.{pmt_in, pid_in}
 use Rattle.section_reader.specs.First.{first_in}
 use Rattle.section_reader.proofs.FirstLaws.{named_before}

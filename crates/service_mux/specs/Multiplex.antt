@@ -1,6 +1,6 @@
 -- Two services in one multiplex: the tables that name them, and frames of three packets, one of a table or null, one of
 -- each service.
-use Rattle.std.specs.Prelude.{ℕ, zero, suc, ◌+◌, ◌-◌, ◌/◌, ◌%◌, ◌==◌, max, true, if◌then◌else◌, List, [], ◌∷◌, ◌++◌, length, map, replicate, Option, Some, None, slice_get}
+use Rattle.std.specs.Prelude.{ℕ, zero, suc, ◌+◌, ◌-◌, ◌/◌, ◌%◌, ◌==◌, max, true, if◌then◌else◌, List, [], ◌∷◌, ◌++◌, length, replicate, Option, Some, None, slice_get}
 use Rattle.std.specs.List.{flat_map, range_with_len}
 use Rattle.stream_syntax.specs.BitFields.{packed}
 use Rattle.stream_syntax.specs.TransportPackets.{head_groups, written_head, null_packet, pid_of}

@@ -1,5 +1,5 @@
 -- The words of `mux`.
-use Rattle.std.specs.Prelude.{◌≡◌, ◌≢◌, ℕ, ◌==◌, nat_le, not, ◌+◌, ◌<◌, ◌≤◌, ◌^◌, Bool, ◌&&◌, ◌||◌, if◌then◌else◌, List, length, Option, Some, None, is_some, codes}
+use Rattle.std.specs.Prelude.{◌≡◌, ◌≢◌, ℕ, ◌==◌, nat_le, not, ◌+◌, ◌<◌, ◌≤◌, ◌^◌, Bool, ◌&&◌, if◌then◌else◌, List, length, Option, Some, None, is_some, codes}
 use Rattle.std.specs.List.{list_all}
 use Rattle.command_words.specs.PlainWords.{is_plain}
 use Rattle.command_words.specs.declared.place.InputPlaces.{InputPlaces}

@@ -1,7 +1,6 @@
 -- What a multiplex has of its services.
 use Rattle.std.specs.Prelude.{◌≡◌, ℕ, List, filter}
 use Rattle.service_mux.specs.Multiplex.{mux_of}
-use Rattle.service_mux.specs.MuxWords.{AreServices}
 use Rattle.service_mux.specs.Taken.{of_pid, taken_of}
 use Rattle.service_mux.specs.declared.mux_words.ServicePair.{ServicePair}
 

@@ -1,5 +1,5 @@
 -- The subtitles of a service, taken out of a multiplex.
-use Rattle.std.specs.Prelude.{ℕ, ◌==◌, Bool, List, [], ◌∷◌, filter, Option, Some, None, option_and_then}
+use Rattle.std.specs.Prelude.{ℕ, ◌==◌, Bool, List, [], filter, Option, Some, None, option_and_then}
 use Rattle.stream_syntax.specs.TransportPackets.{pid_of}
 use Rattle.psi_tables.specs.Services.{pmt_in, pid_in}
 use Rattle.section_reader.specs.First.{Found, first_in}

@@ -1,7 +1,6 @@
-ghost use Rattle.std.specs.Prelude.{◌≡◌, ◌+◌, ◌/◌, ◌%◌, ◌^◌, ◌<◌, ◌≤◌, ◌∷◌, ◌++◌, [], IfOk, IfSome, length, slice_get, true, Some};
+ghost use Rattle.std.specs.Prelude.{◌≡◌, ◌+◌, ◌/◌, ◌%◌, ◌^◌, ◌<◌, [], IfOk, length, true, Some};
 ghost use Rattle.std.specs.List.{concat};
 ghost use Rattle.command_text.specs.Putting.{PutsOut};
-ghost use Rattle.packet_source.specs.InHand.{whole_packets};
 ghost use Rattle.stream_syntax.specs.TransportPackets.{null_packet as null_bytes, written_packet};
 ghost use Rattle.sub_base.specs.Endpoints.{Supplied};
 ghost use Rattle.service_mux.specs.Multiplex.{if_of, table_packets, turn_packet};

@@ -1,8 +1,6 @@
-ghost use Rattle.std.specs.Prelude.{◌≡◌, ◌+◌, ◌<◌, ◌≤◌, ℕ, [], ◌∷◌, ◌++◌, List, length, IfOk, IfErr, slice_get, Some, true, false};
-ghost use Rattle.sub_base.specs.Counts.{HasRisenPast};
-ghost use Rattle.sub_base.specs.Endpoints.{HasReadFault, Supplied};
-ghost use Rattle.packet_source.specs.InHand.{nothing_read, read_count, whole_packets};
-ghost use Rattle.packet_source.specs.declared.limits.TheConstants.{STREAM_LIMIT};
+ghost use Rattle.std.specs.Prelude.{◌≡◌, ◌+◌, ◌<◌, ◌≤◌, ℕ, [], List, length, IfOk, IfErr, slice_get, Some, true, false};
+ghost use Rattle.sub_base.specs.Endpoints.{Supplied};
+ghost use Rattle.packet_source.specs.InHand.{read_count, whole_packets};
 ghost use Rattle.service_mux.specs.Private.Lanes.{HasPassed, IsLaneStop, IsSound, Keeps, Passes, Reaches, lacks_sync as lacks_sync_in, reached};
 
 use packet_source::{PacketSource, StreamEnd};

@@ -1,7 +1,6 @@
-ghost use Rattle.std.specs.Prelude.{◌≡◌, ◌+◌, ◌<◌, ℕ, [], IfOk, MatchResult, OnOk, OnErr, Some, None};
+ghost use Rattle.std.specs.Prelude.{◌≡◌, ◌<◌, ℕ, [], IfOk, MatchResult, Some, None};
 ghost use Rattle.stream_syntax.specs.TransportPackets.{packet_fault};
-ghost use Rattle.packet_source.specs.declared.limits.TheConstants.{STREAM_LIMIT};
-ghost use Rattle.packet_walk.specs.Told.{StaysTold, TellsOne};
+ghost use Rattle.packet_walk.specs.Told.{TellsOne};
 ghost use Rattle.service_mux.specs.Private.Taking.{IsTaking, TakesIn, has_found as has_found_in, no_pid};
 ghost use Rattle.service_mux.specs.declared.taker.Phase.TheVariants as Phase;
 

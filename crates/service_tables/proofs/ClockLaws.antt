@@ -1,5 +1,5 @@
 -- The clock of a PID among programmes.
-use Rattle.std.proofs.Common.{◌≡◌, ℕ, Bool, true, false, List, [], ◌∷◌, map, refl}
+use Rattle.std.proofs.Common.{◌≡◌, ℕ, Bool, true, false, List, ◌∷◌, map, refl}
 use Rattle.std.specs.Prelude.{if◌then◌else◌}
 use Rattle.service_tables.specs.Clock.{clock_among, clock_at, lists}
 use Rattle.service_tables.specs.Reading.{ProgrammeReading, map_of}

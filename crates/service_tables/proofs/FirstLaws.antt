@@ -1,5 +1,5 @@
 -- The first section of a table, one section after the other, and a programme that looks for its PMT.
-use Rattle.std.proofs.Common.{◌≡◌, ◌∙◌, ℕ, Bool, true, false, ◌&&◌, not, cond, List, [], ◌∷◌, ◌++◌, Option, Some, None, refl, sym, ap, subst}
+use Rattle.std.proofs.Common.{◌≡◌, ◌∙◌, ℕ, Bool, true, false, ◌&&◌, not, cond, List, [], ◌∷◌, ◌++◌, Option, Some, None, refl, sym, ap}
 use Rattle.std.specs.Option.{is_some, option_or}
 use Rattle.sub_base.specs.Lists.{first_given}
 use Rattle.section_reader.specs.Reading.{IsReadingOf, ReadsSectionsOn, SectionReading, Takes, latest_first}

@@ -1,15 +1,15 @@
 -- The programmes of a stream, one packet after the other.
-use Rattle.std.proofs.Common.{◌≡◌, ◌∙◌, ℕ, Bool, true, false, List, [], ◌∷◌, ◌++◌, map, Option, Some, None, refl, sym, ap, subst}
+use Rattle.std.proofs.Common.{◌≡◌, ◌∙◌, ℕ, true, false, List, [], ◌∷◌, ◌++◌, map, Option, Some, None, refl, sym, ap, subst}
 use Rattle.std.specs.Option.{is_some, option_or}
 use Rattle.sub_base.specs.Lists.{first_given}
-use Rattle.section_reader.specs.First.{Found, by_sections}
+use Rattle.section_reader.specs.First.{by_sections}
 use Rattle.section_reader.specs.Reading.{HasReadSections, IsReadingOf, ReadsSectionsOn, SectionReading, Takes, latest_first}
 use Rattle.section_reader.specs.Sections.{sections_at, sections_of}
 use Rattle.section_reader.proofs.FirstLaws.{given_append, named_at, named_before}
 use Rattle.section_reader.proofs.ReadLaws.{read_more}
 use Rattle.service_tables.specs.First.{FirstFound, HasFirst}
-use Rattle.service_tables.specs.Reading.{AreListed, HasRead, HaveReadMaps, IsBeforePat, IsBehindPat, ProgrammeReading, ProgrammesRead, ReadBy, entry_of, map_of}
-use Rattle.service_tables.specs.Tables.{ProgrammeMap, entries_in, first_pat, maps_behind, programme_maps, wanted_in, with_map}
+use Rattle.service_tables.specs.Reading.{AreListed, HasRead, HaveReadMaps, IsBeforePat, IsBehindPat, ProgrammesRead, ReadBy, entry_of, map_of}
+use Rattle.service_tables.specs.Tables.{first_pat, maps_behind, programme_maps, wanted_in, with_map}
 use Rattle.service_tables.specs.declared.first_section.Table.{Table}
 use Rattle.service_tables.specs.declared.first_section.Table.TheVariants as table
 use Rattle.service_tables.proofs.ListLaws.{maps_of}

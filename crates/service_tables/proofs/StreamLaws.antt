@@ -1,8 +1,8 @@
 -- The streams that a section lists, and its entries.
-use Rattle.std.proofs.Common.{◌≡◌, ◌∙◌, ℕ, ◌==◌, false, List, [], ◌∷◌, Some, refl, ap}
+use Rattle.std.proofs.Common.{◌≡◌, ℕ, ◌==◌, false, List, [], Some, refl, ap}
 use Rattle.std.specs.Prelude.{◌||◌}
 use Rattle.std.specs.List.{list_any}
-use Rattle.psi_tables.specs.Loops.{Stream, entries_of, streams_of}
+use Rattle.psi_tables.specs.Loops.{Stream, streams_of}
 use Rattle.psi_tables.specs.Sections.{Pat, Pmt, valid_section, section_fault, value_by}
 use Rattle.psi_tables.specs.Walking.{IsFirstStream}
 use Rattle.psi_tables.specs.declared.fault.SectionFault.{SectionFault}

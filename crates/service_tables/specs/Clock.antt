@@ -1,5 +1,5 @@
 -- The clock of a PID: that of the programme to which it belongs (ISO/IEC 13818-1, 2.4.4.8).
-use Rattle.std.specs.Prelude.{ℕ, ◌==◌, Bool, List, Option, Some, None, find, option_and_then}
+use Rattle.std.specs.Prelude.{ℕ, ◌==◌, Bool, List, Option, find, option_and_then}
 use Rattle.std.specs.List.{list_any}
 use Rattle.psi_tables.specs.Services.{clock_in}
 use Rattle.service_tables.specs.Tables.{ProgrammeMap, programme_maps, streams_at}

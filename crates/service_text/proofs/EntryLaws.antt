@@ -1,6 +1,5 @@
 -- The services of entries, descriptors and streams, one after the other.
-use Rattle.std.proofs.Common.{◌≡◌, ◌∙◌, ℕ, ◌+◌, ◌≤◌, ◌<◌, Bool, true, false, List, [], ◌∷◌, ◌++◌, length, drop, map, refl, sym, ap, subst, append-nil, append_assoc, arith}
-use Rattle.std.specs.List.{flat_map}
+use Rattle.std.proofs.Common.{◌≡◌, ◌∙◌, ℕ, ◌+◌, ◌≤◌, ◌<◌, List, [], ◌∷◌, ◌++◌, length, drop, refl, sym, ap, subst, append-nil, append_assoc, arith}
 use Rattle.service_text.specs.Listing.{IsListing, ListsMore, ServiceListing}
 use Rattle.service_text.specs.Services.{services_in}
 use Rattle.service_text.specs.Private.Entries.{HaveListed, first_service}

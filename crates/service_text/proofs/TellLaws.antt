@@ -1,5 +1,5 @@
 -- What is told of a stream, one packet after the other, and at its end.
-use Rattle.std.proofs.Common.{◌≡◌, ◌∙◌, ℕ, ◌+◌, ◌<◌, Bool, true, false, List, [], ◌∷◌, ◌++◌, length, get_or, map, take, refl, sym, ap, subst, append-nil, append_assoc}
+use Rattle.std.proofs.Common.{◌≡◌, ◌∙◌, ℕ, ◌+◌, ◌<◌, Bool, true, false, List, [], ◌∷◌, ◌++◌, length, get_or, take, refl, sym, ap, subst, append-nil, append_assoc}
 use Rattle.std.specs.Prelude.{◌||◌, Result, Ok, Err, OnErr}
 use Rattle.std.specs.List.{flat_map}
 use Rattle.std.proofs.lemmas.Grind.{flat_map-append}
@@ -11,11 +11,11 @@ use Rattle.pid_text.proofs.PidsLaws.{pids_told}
 use Rattle.pid_text.specs.PidText.{IsPidsText}
 use Rattle.pid_text.specs.Private.Telling.{slots_text}
 use Rattle.pid_text.specs.Watched.{HasWatched}
-use Rattle.service_tables.specs.Reading.{HasRead, map_of}
+use Rattle.service_tables.specs.Reading.{HasRead}
 use Rattle.service_tables.specs.Tables.{ProgrammeMap, programme_maps}
 use Rattle.sub_base.specs.Endpoints.{Received}
 use Rattle.service_text.specs.Listing.{IsListing, ListsMore, ServiceListing, listing_text}
-use Rattle.service_text.specs.ServiceText.{IsServicesText, service_line}
+use Rattle.service_text.specs.ServiceText.{service_line}
 use Rattle.service_text.specs.Services.{services_at, services_of}
 use Rattle.service_text.specs.Telling.{HasTakenStream, IsStreamText, is_wanting}
 use Rattle.service_text.specs.declared.service.SubtitleService.{SubtitleService}

@@ -1,4 +1,4 @@
-ghost use Rattle.std.specs.Prelude.{◌≡◌, ℕ, ◌+◌, ◌^◌, ◌<◌, ◌≤◌, List, ◌++◌, map, length, OnOk, OnErr, IfOk};
+ghost use Rattle.std.specs.Prelude.{◌≡◌, ℕ, ◌+◌, ◌^◌, ◌<◌, List, ◌++◌, map, length, OnOk, OnErr, IfOk};
 ghost use Rattle.std.specs.List.{concat, flat_map};
 ghost use Rattle.pixel_codes.specs.Lists.{Extends};
 ghost use Rattle.stream_syntax.specs.Segments.{SegmentValue, spelled};

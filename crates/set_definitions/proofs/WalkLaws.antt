@@ -1,12 +1,12 @@
 -- The segments of a display set, one after the other.
-use Rattle.std.proofs.Common.{◌≡◌, ◌∙◌, ℕ, ◌+◌, ◌*◌, ◌<◌, ◌≤◌, ◌||◌, true, false, eqb, ltb, Bool, List, [], ◌∷◌, ◌++◌, length, take, drop, Option, Some, None, refl, sym, ap, subst, arith, length-append}
-use Rattle.std.specs.List.{AllByRecursion, concat, list_any}
+use Rattle.std.proofs.Common.{◌≡◌, ◌∙◌, ℕ, ◌+◌, ◌*◌, ◌<◌, ◌≤◌, ◌||◌, true, false, eqb, ltb, Bool, List, [], ◌∷◌, ◌++◌, length, take, drop, Some, None, refl, sym, ap, subst, arith, length-append}
+use Rattle.std.specs.List.{concat}
 use Rattle.std.proofs.Math.ListN.{get_or-append}
 use Rattle.std.proofs.Math.Seq.{take-append_seam, drop-append_seam}
 use Rattle.std.proofs.lemmas.Bool.Decides.{nat_tests}
 use Rattle.decoder_model.specs.Received.{IsFramed}
 use Rattle.display_sets.specs.Filling.{AreBytes}
-use Rattle.stream_syntax.specs.SegmentTests.{frame_tests, segment_size}
+use Rattle.stream_syntax.specs.SegmentTests.{frame_tests}
 use Rattle.stream_syntax.specs.Tests.{byte_at, first_fault, word_at}
 use Rattle.stream_syntax.specs.declared.segment_fault.SegmentFault.{SegmentFault}
 use Rattle.stream_syntax.specs.declared.segment_fault.SegmentKind.TheVariants.{NoSync}

@@ -1,6 +1,6 @@
 //! What the segments of display sets define (EN 300 743, clause 7.2).
 
-ghost use Rattle.std.specs.Prelude.{◌≡◌, ◌<◌, ◌^◌, drop, IfSome};
+ghost use Rattle.std.specs.Prelude.{◌≡◌, ◌<◌, drop, IfSome};
 ghost use Rattle.set_definitions.specs.Definitions.{definition_of as definition_in, defines as defines_so};
 ghost use Rattle.set_definitions.specs.Definitions.{is_mode_change as is_page_of_mode_change, said_behind as said_behind_of, says_else as says_else_of};
 ghost use Rattle.set_definitions.specs.declared.definition.TheConstants.{NAMES};

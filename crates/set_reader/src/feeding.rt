@@ -1,8 +1,8 @@
 //! A packet goes through the demultiplexer, and the unit that it ends to the sets.
 
-ghost use Rattle.std.specs.Prelude.{◌≡◌, ℕ, ◌≤◌, true, false, List, [], ◌∷◌, ◌++◌, None, Some, length, IfOk, IfErr, MatchResult, OnOk, if◌then◌else◌};
+ghost use Rattle.std.specs.Prelude.{◌≡◌, ℕ, ◌≤◌, false, List, [], ◌++◌, None, Some, IfOk, IfErr, MatchResult, OnOk, if◌then◌else◌};
 ghost use Rattle.stream_syntax.specs.TransportPackets.{packet_fault};
-ghost use Rattle.stream_syntax.specs.Units.{event_at, unit_at};
+ghost use Rattle.stream_syntax.specs.Units.{event_at};
 ghost use Rattle.ts_packets.specs.Demuxing as packets;
 ghost use Rattle.ts_packets.specs.Demuxing.{DemuxesOn};
 ghost use Rattle.decoder_model.specs.Arrivals.{Arrival, arrivals_at};

@@ -1,6 +1,6 @@
 //! What becomes of the units and the losses of packets.
 
-ghost use Rattle.std.specs.Prelude.{◌≡◌, ℕ, ◌≤◌, Bool, true, false, List, [], ◌∷◌, ◌++◌, Some, None, length, reverse};
+ghost use Rattle.std.specs.Prelude.{◌≡◌, ℕ, ◌≤◌, true, false, List, [], ◌∷◌, ◌++◌, Some, None, length, reverse};
 ghost use Rattle.std.specs.Option.{ForSome, option_copied};
 ghost use Rattle.stream_syntax.specs.Units.{is_loss as means_loss};
 ghost use Rattle.ts_packets.specs.Fates.{longest_unit};

@@ -1,11 +1,10 @@
 //! A set that is ready goes to the page memory.
 
-ghost use Rattle.std.specs.Prelude.{◌≡◌, ◌<◌, ◌≤◌, ◌^◌, ◌∷◌, ℕ, true, IfOk, List, Some, length, unwrap_or};
-ghost use Rattle.decoder_model.specs.Kept.{lifted_time};
+ghost use Rattle.std.specs.Prelude.{◌≡◌, ◌<◌, ◌^◌, ◌∷◌, ℕ, true, IfOk, List, Some, length, unwrap_or};
 ghost use Rattle.decoder_model.specs.Painting.{painting_by, set_load};
 ghost use Rattle.decoder_model.specs.Readings.{IsDeliveryRead, Reading};
 ghost use Rattle.decoder_model.specs.Received.{AreRead};
-ghost use Rattle.decoder_model.specs.Sets.{Delivery, refused, whole};
+ghost use Rattle.decoder_model.specs.Sets.{Delivery};
 ghost use Rattle.decoder_model.specs.Verdict.{verdict_of};
 ghost use Rattle.decoder_model.specs.declared.set_end.SetEnd.TheVariants.{NotLater, Shown};
 ghost use Rattle.display_sets.specs.Gathered.{HasFewBytes};

@@ -1,5 +1,5 @@
 -- The packets that a script is compiled to.
-use Rattle.std.specs.Prelude.{◌≡◌, ℕ, List, All, length, map, IsSome}
+use Rattle.std.specs.Prelude.{◌≡◌, ℕ, List, All, length, IsSome}
 use Rattle.std.specs.List.{AllZip}
 use Rattle.cue_list.specs.declared.script.Script.{Script}
 use Rattle.decoder_model.specs.Received.{Reception, for_page}

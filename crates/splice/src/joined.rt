@@ -1,6 +1,6 @@
 //! The display sets that are sent, one after the other.
 
-ghost use Rattle.std.specs.Prelude.{◌≡◌, ◌<◌, ◌≤◌, ◌^◌, ◌∷◌, [], ◌++◌, All, IfOk, List, OnOk, length, ℕ};
+ghost use Rattle.std.specs.Prelude.{◌≡◌, ◌<◌, ◌^◌, ◌∷◌, [], ◌++◌, All, IfOk, List, OnOk, length, ℕ};
 ghost use Rattle.sub_base.specs.Lists.{all_of};
 ghost use Rattle.sent_sets.specs.RawSets.{RawSet};
 ghost use Rattle.slot_stream.specs.SlotStream.{IsPiece, all_pieces};

@@ -1,4 +1,3 @@
-ghost use Rattle.std.specs.Prelude.{◌≡◌};
 ghost use Rattle.sub_base.specs.Seen.{seen};
 ghost use Rattle.sub_base.specs.ToolOutcome.{HasToolCause, IsToolCause, IsToolRun, IsToolWhole};
 ghost use Rattle.splice.specs.SpliceOutcome.{LeavesEmpty, splice_causes, splice_fault_name};

@@ -1,6 +1,6 @@
 //! Which display sets of a stream are sent, and when.
 
-ghost use Rattle.std.specs.Prelude.{◌≡◌, ◌<◌, ◌^◌, IfSome};
+ghost use Rattle.std.specs.Prelude.{◌≡◌, ◌<◌, ◌^◌};
 ghost use Rattle.splice.specs.Private.Parts.{cut_of, is_looked_at, sent_time};
 
 /// The part of a joined stream that comes of one stream.

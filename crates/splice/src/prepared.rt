@@ -1,6 +1,6 @@
 //! The display set that a receiver has ready, before it takes it.
 
-ghost use Rattle.std.specs.Prelude.{◌≡◌, ◌<◌, ◌≤◌, ◌^◌, IfOk, IfSome, List, None, Some, false, length, option_map, ℕ};
+ghost use Rattle.std.specs.Prelude.{◌≡◌, ◌<◌, ◌^◌, IfOk, IfSome, List, None, Some, false, length, option_map, ℕ};
 ghost use Rattle.std.specs.Option.{ForSome};
 ghost use Rattle.decoder_model.specs.Sets.{Delivery, whole};
 ghost use Rattle.display_sets.specs.Filling.{AreBytes};

@@ -1,4 +1,4 @@
-ghost use Rattle.std.specs.Prelude.{◌≡◌, ◌<◌, ◌≤◌, ◌^◌, IfSome, length};
+ghost use Rattle.std.specs.Prelude.{◌≡◌, ◌<◌, ◌^◌, IfSome, length};
 ghost use Rattle.command_words.specs.Ticks.{tick_of};
 ghost use Rattle.command_words.specs.Words.{page_of, pid_of, sending_profile as profile_of_word, word_at};
 ghost use Rattle.splice.specs.SpliceWords.{origin_of, splice_places, splice_words, splicing_of};

@@ -1,6 +1,5 @@
 -- The end of `levels` by the clock of a programme.
-use Rattle.std.proofs.Common.{◌≡◌, ◌∙◌, ℕ, ◌⊎◌, inl, inr, Bool, true, false, ◌||◌, List, [], ◌++◌, append-nil, refl, subst, arith}
-use Rattle.std.specs.Io.KnownBytes.{Appends}
+use Rattle.std.proofs.Common.{◌≡◌, ℕ, ◌⊎◌, inl, inr, Bool, true, false, ◌||◌, List, [], ◌++◌, append-nil, refl, subst, arith}
 use Rattle.std.proofs.KnownBytes.{Appends-nil}
 use Rattle.command_text.specs.Putting.{Buffered, IsPutOut}
 use Rattle.command_text.proofs.SentLaws.{Sent-front}

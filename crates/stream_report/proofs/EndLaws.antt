@@ -1,12 +1,11 @@
 -- The cause of the status of a tool that tells of one stream, by the end of its telling; whatever it tells.
-use Rattle.std.proofs.Common.{◌≡◌, ℕ, inl, inr, false, List, length, Option, Some, None, refl, sym, subst, arith}
+use Rattle.std.proofs.Common.{ℕ, inl, inr, false, List, length, Option, sym, subst, arith}
 use Rattle.std.proofs.Math.Seq.{take-length}
 use Rattle.std.specs.Io.KnownBytes.{Appends}
 use Rattle.packet_walk.specs.ToldEnds.{IsFront, IsToldEnd, IsUpToFailure, Telling}
 use Rattle.packet_walk.specs.declared.told_end.ToldEnd.{ToldEnd}
 use Rattle.packet_walk.specs.declared.told_end.ToldEnd.TheVariants as told_end
 use Rattle.sub_base.specs.Endpoints.{AppendsPrefix, Received, Supplied}
-use Rattle.sub_base.specs.Seen.{Seen}
 use Rattle.sub_base.specs.ToolOutcome.{IsToolCause, TellsTool, untold_tool}
 use Rattle.sub_base.specs.declared.status.ToolStatus.{ToolStatus}
 use Rattle.sub_base.specs.declared.status.ToolStatus.TheVariants as tool

@@ -1,12 +1,11 @@
 -- The first packets of those that a source gave, with the others as bytes behind them.
-use Rattle.std.proofs.Common.{◌≡◌, ◌∙◌, ℕ, ◌+◌, ◌<◌, List, ◌++◌, length, take, All, None, append_assoc, refl, sym, ap, subst, arith}
+use Rattle.std.proofs.Common.{◌≡◌, ◌∙◌, ℕ, ◌+◌, List, ◌++◌, length, All, None, append_assoc, refl, sym, ap, subst, arith}
 use Rattle.std.specs.Io.KnownBytes.{Consumes}
 use Rattle.std.proofs.Math.Seq.{take-append_seam}
 use Rattle.std.proofs.lemmas.Grind.{flat_map-append}
 use Rattle.std.proofs.lemmas.List.{get_or-append-add, length-append}
 use Rattle.std.proofs.lemmas.List.Elements.{All-take}
-use Rattle.packet_source.specs.Packets.{Gave, IsWithin, stream_length}
-use Rattle.packet_source.specs.declared.limits.TheConstants.{STREAM_LIMIT}
+use Rattle.packet_source.specs.Packets.{IsWithin, stream_length}
 use Rattle.packet_source.proofs.GaveLaws.{AreLong, bytes_of, stream_length-more}
 use Rattle.packet_walk.specs.Taken.{AreTaken}
 use Rattle.stream_syntax.specs.TransportPackets.{packet_fault}

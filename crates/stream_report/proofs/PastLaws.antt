@@ -1,11 +1,11 @@
 -- What is told of a past, with one more set or loss.
 use Rattle.std.proofs.Common.{◌≡◌, ◌∙◌, ℕ, ◌<◌, ◌≤◌, Bool, true, false, cond, List, [], ◌∷◌, ◌++◌, append-nil, append_assoc, Option, Some, None, refl, sym, ap, subst, arith}
 use Rattle.std.specs.Prelude.{IfSome, nat_lt, option_and_then, unwrap_or}
-use Rattle.std.specs.List.{AllByRecursion, flat_map}
+use Rattle.std.specs.List.{AllByRecursion}
 use Rattle.std.specs.Option.{is_some, option_or}
 use Rattle.std.proofs.lemmas.Bool.Decides.{nat_tests}
 use Rattle.std.proofs.lemmas.List.Concat.{flat_map-append}
-use Rattle.decoder_model.specs.Kept.{ahead_of, last_time, lifted_after, lifted_behind, lifted_time, time_of}
+use Rattle.decoder_model.specs.Kept.{ahead_of, last_time, lifted_behind, lifted_time, time_of}
 use Rattle.decoder_model.specs.Readings.{Reading}
 use Rattle.decoder_model.specs.Sets.{Delivery, lost}
 use Rattle.decoder_model.specs.Shown.{standing_after, until_of, view_at}

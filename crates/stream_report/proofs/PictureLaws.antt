@@ -17,7 +17,6 @@ use Rattle.dump_text.specs.DumpText.{shown_text, view_text}
 use Rattle.dump_text.proofs.DumpLaws.{no_packets}
 use Rattle.packet_walk.specs.Told.{TellsOne}
 use Rattle.page_core.specs.Memory as cores
-use Rattle.page_core.specs.Memory.{Memory}
 use Rattle.reading_laws.proofs.PacketsRead.{packets_read}
 use Rattle.receiver.specs.Receiving.{IsNext, IsSame, Receiving, Stands, reception}
 use Rattle.receiver.specs.Taking.{AllTaken, HasNext}

@@ -1,12 +1,11 @@
 -- The end of `pids`.
-use Rattle.std.proofs.Common.{◌≡◌, ◌∙◌, ℕ, zero, suc, ◌≤◌, true, false, List, [], ◌∷◌, ◌++◌, length, take, Bool, Option, Some, None, append-nil, ap, inl, refl, sym, subst, arith}
+use Rattle.std.proofs.Common.{◌≡◌, ◌∙◌, ℕ, zero, suc, true, false, List, [], ◌∷◌, ◌++◌, take, Bool, Option, Some, None, append-nil, ap, inl, refl, sym, subst, arith}
 use Rattle.std.specs.Io.KnownBytes.{Appends, Keeps}
 use Rattle.command_text.specs.Putting.{Buffered, IsPutOut, PutsOut}
 use Rattle.packet_source.specs.declared.stream_end.StreamEnd.TheVariants as stream
 use Rattle.packet_walk.proofs.EndLaws.{end_told}
 use Rattle.packet_walk.specs.Closing.{FinishesTold}
-use Rattle.packet_walk.specs.Told.{HasTold}
-use Rattle.packet_walk.specs.ToldEnds.{IsToldEnd, Telling}
+use Rattle.packet_walk.specs.ToldEnds.{IsToldEnd}
 use Rattle.packet_walk.specs.Walking.{IsEnd, IsToldFrom}
 use Rattle.packet_walk.specs.declared.told_end.ToldEnd.{ToldEnd}
 use Rattle.packet_walk.specs.declared.told_end.ToldEnd.TheVariants as told_end

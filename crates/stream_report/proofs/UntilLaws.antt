@@ -11,7 +11,7 @@ use Rattle.page_core.specs.Memory as cores
 use Rattle.page_core.specs.Memory.{Memory}
 use Rattle.page_core.specs.Scenes.{ShowsStanding, until_in}
 use Rattle.sub_base.specs.declared.pace.TheConstants.{SECOND}
-use Rattle.stream_report.specs.Private.Picturing.{IsUntilBy, IsUntilIn}
+use Rattle.stream_report.specs.Private.Picturing.{IsUntilIn}
 
 -- no earlier than the last kept set
 in_late : (memory : Memory) (past : List (Delivery Reading)) → cores.IsMemoryAfter past memory

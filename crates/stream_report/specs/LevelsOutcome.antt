@@ -1,5 +1,5 @@
 -- How `levels` ends.
-use Rattle.std.specs.Prelude.{ℕ, List, Option, Some, None}
+use Rattle.std.specs.Prelude.{Option, Some, None}
 use Rattle.decoder_model.specs.Received.{Reception, for_page}
 use Rattle.level_text.specs.ClockText.{IsClockText}
 use Rattle.level_text.specs.LevelText.{IsLevelText}

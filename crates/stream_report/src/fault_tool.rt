@@ -1,4 +1,3 @@
-ghost use Rattle.std.specs.Prelude.{◌≡◌};
 ghost use Rattle.fault_text.specs.Faulting.{HasFaulted, faults_tell};
 ghost use Rattle.packet_walk.specs.Closing.{FinishesTold};
 ghost use Rattle.packet_walk.specs.ToldEnds.{IsToldEnd};

@@ -1,4 +1,4 @@
-ghost use Rattle.std.specs.Prelude.{◌≡◌, ◌≤◌, Some};
+ghost use Rattle.std.specs.Prelude.{◌≤◌, Some};
 ghost use Rattle.decoder_model.specs.Received.{for_page};
 ghost use Rattle.level_text.specs.Levelling.{HasLevelled, levels_tell};
 ghost use Rattle.level_text.specs.declared.rate_clock.TheConstants.{GREATEST_RATE, LEAST_RATE};

@@ -1,4 +1,3 @@
-ghost use Rattle.std.specs.Prelude.{◌≡◌};
 ghost use Rattle.packet_walk.specs.Closing.{FinishesTold};
 ghost use Rattle.packet_walk.specs.ToldEnds.{IsToldEnd};
 ghost use Rattle.stream_report.specs.PicturesOutcome.{HasPicturesRead, pictures_causes};

@@ -1,4 +1,4 @@
-ghost use Rattle.std.specs.Prelude.{◌≡◌, ◌≤◌, IfSome};
+ghost use Rattle.std.specs.Prelude.{◌≡◌, IfSome};
 ghost use Rattle.stream_report.specs.PicturesWords.{HasBands, pictures_places, pictures_words as pictures_words_of};
 
 use command_words::{

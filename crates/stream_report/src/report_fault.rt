@@ -1,4 +1,3 @@
-ghost use Rattle.std.specs.Prelude.{◌≡◌, ◌≤◌, length};
 ghost use Rattle.stream_report.specs.ReportOutcome.{report_fault_name};
 
 use stream_syntax::PacketFault;

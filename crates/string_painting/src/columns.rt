@@ -1,6 +1,6 @@
 //! Columns of a packed row that get one code.
 
-ghost use Rattle.std.specs.Prelude.{◌≡◌, ℕ, ◌+◌, ◌*◌, ◌/◌, ◌<◌, ◌≤◌, ◌⊎◌, length, min, slice_index};
+ghost use Rattle.std.specs.Prelude.{◌≡◌, ℕ, ◌+◌, ◌*◌, ◌/◌, ◌<◌, ◌≤◌, ◌⊎◌, length, slice_index};
 ghost use Rattle.sub_base.specs.Depth.{code_count};
 ghost use Rattle.string_painting.specs.Codes.{codes_in_byte};
 ghost use Rattle.string_painting.specs.Private.Columns.{PaintsColumns};

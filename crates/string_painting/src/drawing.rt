@@ -1,6 +1,6 @@
 //! The pixels of one code.
 
-ghost use Rattle.std.specs.Prelude.{◌≡◌, ◌+◌, ◌*◌, ◌^◌, ◌<◌, ◌≤◌, length, min, replicate};
+ghost use Rattle.std.specs.Prelude.{◌≡◌, ◌+◌, ◌*◌, ◌<◌, ◌≤◌, length, min, replicate};
 ghost use Rattle.sub_base.specs.Depth.{code_count};
 ghost use Rattle.string_painting.specs.Codes.{codes_in_byte};
 ghost use Rattle.string_painting.specs.Painting.{region_code as code_in_region, IsMapTable, laid_over, LaysPixels};

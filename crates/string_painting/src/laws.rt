@@ -1,7 +1,7 @@
 //! What a painted string has to do with the runs of a block, by which the last write to a pixel is
 //! told.
 
-ghost use Rattle.std.specs.Prelude.{◌≡◌, ◌≢◌, ℕ, ◌+◌, ◌*◌, List, length, Option, None, unwrap_or};
+ghost use Rattle.std.specs.Prelude.{◌≡◌, ◌≢◌, ℕ, ◌+◌, ◌*◌, List, length, None, unwrap_or};
 ghost use Rattle.sub_base.specs.declared.depth.Depth.{Depth};
 ghost use Rattle.stream_syntax.specs.PixelCodes.{Code};
 ghost use Rattle.stream_syntax.specs.PixelBlocks.{Part, line_after, pixels_in, runs_from};

@@ -1,6 +1,6 @@
 //! Packed codes: the first code of a byte is in its highest bits.
 
-ghost use Rattle.std.specs.Prelude.{◌≡◌, ℕ, ◌+◌, ◌-◌, ◌*◌, ◌/◌, ◌%◌, ◌^◌, ◌<◌, ◌≤◌};
+ghost use Rattle.std.specs.Prelude.{◌≡◌, ◌+◌, ◌-◌, ◌*◌, ◌/◌, ◌%◌, ◌^◌, ◌<◌, ◌≤◌};
 ghost use Rattle.sub_base.specs.Depth.{code_count};
 ghost use Rattle.string_painting.specs.Codes.{codes_in_byte, code_in};
 ghost use Rattle.string_painting.specs.Private.Packing.{ones_of, cut, with_code, PaintsByte};

@@ -1,7 +1,6 @@
 //! A string painted from its first code to its end.
 
 ghost use Rattle.std.specs.Prelude.{◌≡◌, ℕ, ◌+◌, ◌*◌, ◌^◌, ◌<◌, ◌≤◌, List, ◌++◌, length};
-ghost use Rattle.sub_base.specs.Depth.{code_count};
 ghost use Rattle.stream_syntax.specs.PixelCodes.{Code, IsString};
 ghost use Rattle.string_painting.specs.Codes.{codes_in_byte, packed_code};
 ghost use Rattle.string_painting.specs.Painting.{IsMapTable, laid_over, LaysPixels, pixels_of_codes};

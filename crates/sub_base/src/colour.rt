@@ -1,4 +1,4 @@
-ghost use Rattle.std.specs.Prelude.{◌≡◌, ℕ, ◌<◌, ◌≤◌, ◌/◌, ◌%◌, ◌*◌, ◌+◌};
+ghost use Rattle.std.specs.Prelude.{◌≡◌, ◌<◌, ◌≤◌, ◌/◌, ◌%◌, ◌*◌, ◌+◌};
 ghost use Rattle.sub_base.specs.Colour.{shown_of, default_of, default_of_two, default_of_four, default_of_eight, full_or_half_of, light_or_dark_of, colour_of_mix, primaries_of, graded_of, bit_of};
 ghost use Rattle.sub_base.specs.Depth.{code_count};
 

@@ -1,4 +1,4 @@
-ghost use Rattle.std.specs.Prelude.{◌≡◌, ℕ};
+ghost use Rattle.std.specs.Prelude.{◌≡◌};
 ghost use Rattle.sub_base.specs.Depth.{bits_of, code_count as codes_of};
 
 /// The bits of a pixel code: how many colours a region or a picture can have (EN 300 743, region

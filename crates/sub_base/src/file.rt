@@ -1,4 +1,4 @@
-ghost use Rattle.std.specs.Prelude.{◌≡◌, None, ◌<◌, ◌≤◌, length, IfOk, OnErr};
+ghost use Rattle.std.specs.Prelude.{◌≡◌, None, ◌<◌};
 
 use crate::faults::{ReadFailed, WriteFailed};
 use crate::transfer::{Sink, Source};

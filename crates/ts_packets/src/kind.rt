@@ -1,4 +1,4 @@
-ghost use Rattle.std.specs.Prelude.{◌≡◌, ℕ, ◌<◌, ◌≤◌, ◌==◌, ◌↔◌, false, length, drop, IsTrue, MatchResult, None, Some};
+ghost use Rattle.std.specs.Prelude.{◌≡◌, ◌<◌, ◌≤◌, ◌==◌, ◌↔◌, false, length, drop, IsTrue, MatchResult, None, Some};
 ghost use Rattle.stream_syntax.specs.TransportPackets.{packet_fault, payload_of, pid_of, counter_of, has_start_flag};
 ghost use Rattle.stream_syntax.specs.declared.wire.TheConstants.{PAYLOAD_LENGTH};
 ghost use Rattle.ts_packets.specs.Kinds.{IsKind};

@@ -1,4 +1,4 @@
-ghost use Rattle.std.specs.Prelude.{◌≡◌, ℕ, ◌+◌, ◌-◌, ◌*◌, ◌^◌, ◌<◌, ◌≤◌, ◌==◌, ◌≢◌, if◌then◌else◌, List, length, None};
+ghost use Rattle.std.specs.Prelude.{◌≡◌, ℕ, ◌+◌, ◌-◌, ◌*◌, ◌<◌, ◌≤◌, ◌==◌, ◌≢◌, length, None};
 ghost use Rattle.stream_syntax.specs.BitFields.{packed};
 ghost use Rattle.stream_syntax.specs.TransportPackets.{written_head, head_groups, adaptation_field, written_packet, null_packet as null_bytes, pid_of, counter_of, packet_fault};
 ghost use Rattle.stream_syntax.specs.Cutting.{CarriesPiece};

@@ -1,5 +1,5 @@
 -- The first tick of a row, as it is read from its second cell.
-use Rattle.std.specs.Prelude.{ℕ, List, Option, None, option_map}
+use Rattle.std.specs.Prelude.{ℕ, Option, None, option_map}
 use Rattle.sub_base.specs.Number.{number_of}
 use Rattle.cue_records.specs.declared.limits.TheConstants.{MOST_DIGITS}
 use Rattle.cue_records.specs.declared.row_kind.RowKind.{RowKind}

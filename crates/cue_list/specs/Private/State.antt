@@ -1,6 +1,6 @@
 -- What the reader keeps of the records before a record, and what it keeps with one more: that this is what looking back
 -- over them gives is said in `proofs/`.
-use Rattle.std.specs.Prelude.{◌≡◌, ℕ, ◌+◌, ◌≤◌, [], ◌∷◌, ◌++◌, length, map, Option, Some, None, option_map, ⊤}
+use Rattle.std.specs.Prelude.{◌≡◌, ℕ, ◌+◌, ◌≤◌, [], ◌∷◌, ◌++◌, length, map, Option, Some, None, option_map}
 use Rattle.bitmap_font.specs.Font.{FontValue}
 use Rattle.sub_base.specs.Picture.{Picture}
 use Rattle.cue_records.specs.declared.limits.TheConstants.{LATEST_ORIGIN, MOST_CODES, MOST_COLOURS, MOST_CUES, MOST_PICTURES}

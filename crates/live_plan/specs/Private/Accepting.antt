@@ -4,8 +4,8 @@ use Rattle.cue_records.specs.Rows.{Row}
 use Rattle.cue_list.specs.SeenReaders.{seen_of}
 use Rattle.cue_list.specs.TakenRows.{StandsFor, next_fault}
 use Rattle.cue_records.specs.declared.fault.ScriptKind.{ScriptKind}
-use Rattle.cue_list.specs.declared.script_reader.RecordFault.{RecordFault}
-use Rattle.cue_list.specs.declared.script_reader.RecordFault.TheVariants as record_faults
+use Rattle.cue_records.specs.declared.record_fault.RecordFault.{RecordFault}
+use Rattle.cue_records.specs.declared.record_fault.RecordFault.TheVariants as record_faults
 use Rattle.shown_stream.specs.Compiled.{IsCompiledFor}
 use Rattle.live_plan.specs.LiveCalls.{HasBlocks, HasLetIn, LiveState}
 use Rattle.live_plan.specs.LiveRows.{AHEAD, Inserter, IsBatchOf, IsLetIn, IsUnplanned, IsUnscheduled, RowOrTick, early_of, early_tick, has_epoch, is_within, records_in, row, row_fault, rows_in, taken_as}

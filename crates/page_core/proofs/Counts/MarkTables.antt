@@ -7,7 +7,6 @@ use Rattle.std.proofs.lemmas.Grind.{get_or-set_at}
 use Rattle.std.proofs.lemmas.List.Folds.{list_any-append}
 use Rattle.std.proofs.lemmas.List.{get_or-set_other, get_or-map, length-map, length-set}
 use Rattle.sub_base.specs.Depth as depths
-use Rattle.sub_base.specs.Depth.{code_count}
 use Rattle.sub_base.specs.declared.depth.Depth.{Depth}
 use Rattle.decoder_model.specs.Nodes.{TableEntry, is_same_entry}
 use Rattle.page_core.specs.Private.Inks.{ink_count}

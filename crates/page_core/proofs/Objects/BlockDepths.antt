@@ -1,5 +1,5 @@
 -- The blocks of an object's two fields, in strings of up to eight bits, in regions of a depth.
-use Rattle.std.proofs.Common.{◌≡◌, ◌∙◌, sym, ap, subst, refl, ℕ, ◌+◌, ◌<◌, ◌≤◌, Bool, true, false, cond, eqb, List, [], ◌∷◌, ◌++◌, length, Option, Some, None, length-append, arith}
+use Rattle.std.proofs.Common.{◌≡◌, ◌∙◌, sym, ap, refl, ℕ, ◌+◌, ◌<◌, Bool, true, false, eqb, List, [], ◌∷◌, length, Option, Some, None, length-append, arith}
 use Rattle.std.specs.Option.{option_map, option_or}
 use Rattle.std.proofs.lemmas.Bool.Decides.{nat_tests}
 use Rattle.sub_base.specs.Depth as depths
@@ -8,10 +8,9 @@ use Rattle.sub_base.specs.declared.depth.Depth.TheVariants.{Eight}
 use Rattle.stream_syntax.specs.PixelBlocks.{Part, string, table, line_end, IsPart, AreParts, runs_after}
 use Rattle.stream_syntax.specs.Segments.{Object}
 use Rattle.stream_syntax.specs.declared.region.Listing.{Listing}
-use Rattle.decoder_model.specs.Faults.{part_size, is_too_deep, too_deep_at, too_deep_fault, depth_fault}
+use Rattle.decoder_model.specs.Faults.{too_deep_at, too_deep_fault, depth_fault}
 use Rattle.decoder_model.specs.Pixels.{bottom_parts, code_by_field}
 use Rattle.decoder_model.specs.Readings.{Content}
-use Rattle.decoder_model.specs.declared.set_fault.SetFault.{SetFault}
 use Rattle.pixel_store.specs.Regions.{Regions}
 use Rattle.block_painting.specs.Writing.{IsWritten}
 use Rattle.page_core.specs.Private.Painted.{bottom_bytes, code_by_fields, field_runs}

@@ -15,7 +15,6 @@ use Rattle.page_core.specs.Private.ObjectFaults.{fault_in_node, fault_in_pair, i
 use Rattle.page_core.specs.declared.composition.listings.Painter.{Painter}
 use Rattle.page_core.specs.declared.node.Node.{Node}
 use Rattle.page_core.specs.declared.node.Node.TheVariants as node
-use Rattle.page_core.specs.declared.node.RegionNode.{RegionNode}
 use Rattle.page_core.proofs.Objects.EverywhereWalks.{IsPaintingAll, from_node}
 
 -- ---- the fault of the object

@@ -1,8 +1,7 @@
 -- The numbers of a region segment's head fit their fields.
-use Rattle.std.proofs.Common.{subst, ℕ, ◌<◌, List}
+use Rattle.std.proofs.Common.{subst, ℕ, List}
 use Rattle.stream_syntax.specs.Fields.{Field, FitsFields}
 use Rattle.stream_syntax.specs.Segments.{SegmentValue, Region, of_page, of_region, of_clut, of_object, of_display, end_of_set, passed_over, region_fields, segment_fields, IsSegment}
-use Rattle.stream_syntax.specs.declared.region.RegionHead.{RegionHead}
 use Rattle.page_core.specs.Private.Painted.{FitsHead}
 use Rattle.page_core.specs.Private.RegionSteps.{IsValidHead, IsValidValue}
 

@@ -1,6 +1,6 @@
 -- What painting changes in a store of regions, in the words of the last write to a pixel (EN 300 743, clauses 7.2.3 and
 -- 7.2.5).
-use Rattle.std.specs.Prelude.{◌≡◌, ℕ, ◌<◌, ◌==◌, Bool, if◌then◌else◌, List, [], length, Option}
+use Rattle.std.specs.Prelude.{ℕ, ◌<◌, ◌==◌, Bool, if◌then◌else◌, List, [], length, Option}
 use Rattle.std.specs.Option.{option_or}
 use Rattle.sub_base.specs.declared.depth.Depth.{Depth}
 use Rattle.stream_syntax.specs.PixelBlocks.{Part, runs_after}

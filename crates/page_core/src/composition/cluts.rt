@@ -2,7 +2,7 @@
 
 ghost use Rattle.std.specs.Prelude.{◌≡◌, ◌==◌, ◌<◌, ℕ, IfSome, MatchOption, None, Some, length, option_map, slice_index_or, if◌then◌else◌};
 ghost use Rattle.comp_pool.specs.Changes.{replaced};
-ghost use Rattle.comp_pool.specs.Pool.{IsInList, NoneTwice, list_of, node_count};
+ghost use Rattle.comp_pool.specs.Pool.{IsInList, NoneTwice, node_count};
 ghost use Rattle.page_core.specs.Private.ClutSteps.{IsPushed, IsVersionOf, with_clut, with_colour};
 ghost use Rattle.page_core.specs.Composition.{KeptClut, clut_in};
 ghost use Rattle.page_core.specs.Private.Nodes.{clut_node, place_kept};

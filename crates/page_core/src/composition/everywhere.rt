@@ -9,7 +9,7 @@ ghost use Rattle.segments.specs.Contents.{object_value};
 ghost use Rattle.stream_syntax.specs.Segments.{of_object};
 ghost use Rattle.page_core.specs.Composition.{KeptRegion};
 ghost use Rattle.page_core.specs.Private.Everywhere.{AreApart, AreIdsApart, AreKeptWritten, AreWritten, HasNoFault, HasNoFaults, HasRegionAt, HaveRegions, IsEverywhere, IsPaintedAt, KeepsAt, KeepsRoom, IsWrittenAt, IsWrittenIn, with_all_painted};
-ghost use Rattle.page_core.specs.Private.Listings.{code_by_pair, painted_node, painter_of};
+ghost use Rattle.page_core.specs.Private.Listings.{painted_node, painter_of};
 ghost use Rattle.page_core.specs.Private.Lists.{IsRewritten};
 ghost use Rattle.page_core.specs.Private.Nodes.{kept_in, list_count, listings_list, region_node};
 ghost use Rattle.page_core.specs.Private.ObjectFaults.{fault_in_kept, fault_in_node, fault_in_pair, fault_in_region_node, least_of, told};

@@ -1,6 +1,6 @@
 //! How many nodes lists of the composition memory have.
 
-ghost use Rattle.std.specs.Prelude.{◌≡◌, ◌<◌, ◌^◌, length, map, option_map, Some};
+ghost use Rattle.std.specs.Prelude.{◌≡◌, ◌<◌, ◌^◌, length, Some};
 ghost use Rattle.comp_pool.specs.Pool.{list_of, node_count};
 ghost use Rattle.page_core.specs.Composition.{KeptRegion, region_in};
 

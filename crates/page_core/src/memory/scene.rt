@@ -1,4 +1,4 @@
-ghost use Rattle.std.specs.Prelude.{◌≡◌, ◌<◌, ℕ, List, Some, true, length, option_map};
+ghost use Rattle.std.specs.Prelude.{◌≡◌, ◌<◌, List, Some, true, length, option_map};
 ghost use Rattle.decoder_model.specs.Readings.{Reading};
 ghost use Rattle.decoder_model.specs.Sets.{Delivery};
 ghost use Rattle.decoder_model.specs.Shown.{Standing, standing_after};

@@ -1,7 +1,7 @@
 //! What becomes of a set that a core is handed (EN 300 743, clause 5.1): its verdict, and what the
 //! page memory has with it.
 
-ghost use Rattle.std.specs.Prelude.{◌≡◌, ◌-◌, ◌<◌, ◌≤◌, ◌^◌, ◌∷◌, [], List, ℕ, Some, None, true, length, option_and_then, option_map};
+ghost use Rattle.std.specs.Prelude.{◌≡◌, ◌-◌, ◌<◌, ◌≤◌, ◌^◌, ◌∷◌, [], List, ℕ, Some, None, true, option_and_then, option_map};
 ghost use Rattle.decoder_model.specs.Contents.{display_in_set, page_in_set};
 ghost use Rattle.decoder_model.specs.Faults.{display_fault as fault_of_display, epoch_fault};
 ghost use Rattle.decoder_model.specs.Kept.{lifted_time};

@@ -25,7 +25,7 @@ use Rattle.sent_sets.proofs.RawUnits.{parts_of_all, raw_size, AreShort, IsRawSen
 use Rattle.sent_sets.proofs.SentLate.{sent_sets_of}
 use Rattle.sent_sets.proofs.SetEnds.{ended_set, none_behind_end}
 use Rattle.sent_sets.proofs.SetsCome.{all_ended, all_count}
-use Rattle.sent_sets.proofs.Units.{SetUnit, TimedSet, all_segments, IsTimedSet, counted_set, counted_sets}
+use Rattle.sent_sets.proofs.Units.{TimedSet, all_segments, IsTimedSet, counted_set, counted_sets}
 use Rattle.sent_sets.proofs.Units as counting
 use Rattle.shown_stream.specs.Compiled.{IsCompiledTo, Compiling}
 use Rattle.shown_plan.proofs.Segments.ByPlace.{set_is_named}

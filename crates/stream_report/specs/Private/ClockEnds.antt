@@ -1,7 +1,6 @@
 -- The end of a walk over packets that arrive by the clock of their programme.
-use Rattle.std.specs.Prelude.{◌≡◌, ℕ, Bool, true, false, List, ◌⊎◌}
+use Rattle.std.specs.Prelude.{◌≡◌, Bool, true, false, ◌⊎◌}
 use Rattle.command_text.specs.Putting.{Buffered}
-use Rattle.decoder_model.specs.Received.{Reception}
 use Rattle.level_text.specs.Following.{Following, HasFollowed}
 use Rattle.packet_walk.specs.Closing.{FinishesTold}
 use Rattle.packet_walk.specs.ToldEnds.{IsFront, Telling}

@@ -1,5 +1,5 @@
 -- What `pictures` keeps, and what that has to do with the packets that it took and the text that it put out.
-use Rattle.std.specs.Prelude.{◌≡◌, ℕ, ◌<◌, ◌≤◌, false, Bool, Option, Some, None, IfSome, unwrap_or, option_and_then, All}
+use Rattle.std.specs.Prelude.{◌≡◌, ℕ, ◌≤◌, false, Bool, Option, Some, None, IfSome, unwrap_or, option_and_then, All}
 use Rattle.std.specs.Prelude.{List, [], ◌++◌, reverse}
 use Rattle.std.specs.List.{AllByRecursion}
 use Rattle.command_text.specs.Putting.{Buffered, PutsOut}

@@ -1,4 +1,4 @@
-use Rattle.std.proofs.Common.{◌≡◌, ◌∙◌, refl, ap, arith}
+use Rattle.std.proofs.Common.{◌∙◌, refl, ap, arith}
 use Rattle.cue_list.specs.Private.Taken.{kept_of}
 use Rattle.cue_list.proofs.StandsLaws.{IsScriptOf-stands, few-stands, script-sound}
 use Rattle.cue_list.proofs.lent_script.lent_of.Goals as goal

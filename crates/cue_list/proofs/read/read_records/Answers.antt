@@ -5,14 +5,14 @@ use Rattle.cue_list.specs.declared.fault.ScriptFault.TheVariants.{Refused}
 use Rattle.cue_records.specs.declared.fault.ScriptKind.{ScriptKind}
 use Rattle.cue_records.specs.declared.fault.ScriptKind.TheVariants.{Order}
 use Rattle.cue_list.specs.declared.reader.Reader.{Reader}
-use Rattle.cue_records.specs.declared.row_fault.RowFault.{RowFault}
+use Rattle.cue_records.specs.declared.record_fault.RecordFault.{RecordFault}
 use Rattle.cue_list.specs.Private.HasRead.{HasRead}
 use Rattle.cue_records.specs.Records.{record_of}
 use Rattle.cue_list.specs.RowFaults.{fault_with}
 use Rattle.cue_records.specs.Rows.{Row, rows_left, unread}
 use Rattle.cue_list.specs.ScriptRows.{IsScriptFault}
 use Rattle.cue_list.specs.Private.State.{past_of}
-use Rattle.cue_records.specs.CellFaults.{IsRowFault}
+use Rattle.cue_records.specs.CellFaults.{IsRecordFault}
 use Rattle.cue_list.proofs.ReadLaws.{HasRead-first, HasRead-next, IsRefused-row, IsRefused-whole, IfErr-follows, length-records, few-rows}
 use Rattle.cue_list.proofs.read.read_records.Goals as goal
 
@@ -65,8 +65,8 @@ returns-in-Err-Wrong-clause-refused c =
     let next : rows_left unread c.loop-reader.rows ≡ fields_of c.next_row.new.row ∷ rest =
     c.in-Ok-true.ensures.row
     ∙ ap (λ (b : Bool). if b then fields_of c.next_row.new.row ∷ rest else []) found in
-    let Because : RowFault
-    → Type 0 = λ (fault : RowFault). IsRowFault
+    let Because : RecordFault
+    → Type 0 = λ (fault : RecordFault). IsRecordFault
     (fault_with c.args.font.now (past_of c.loop-reader.reader)
     (record_of (c.loop-reader.reader.rows + 1) (fields_of c.next_row.new.row))) fault in
     let wrong = subst Because c.in-Err-Wrong.field-0-is c.in-Err-Wrong.ensures.refused in

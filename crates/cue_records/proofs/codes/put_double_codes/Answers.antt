@@ -12,7 +12,7 @@ loop-place-preserved c =
     → get_or (get_or c.as_chunks.result.0.now l.place []) j 0 ≡ get_or text (2 * l.place + j) 0 =
     λ j inside. ap (λ pairs. get_or (get_or pairs l.place []) j 0) c.as_chunks.ensures.front
     ∙ digit_in_chunk 2 (length text / 2) l.place j text (omega (arith, within, l.invariant.count)) inside in
-    double_more text l.codes l.place c.digit_value-high.result c.digit_value-low.result l.right within
+    double_more text l.codes l.place c.digit_value-high.result c.digit_value-low.result l.valid within
     (c.digit_value-high.ensures
     ∙ ap (λ d. unwrap_or (hex_value d) 255) (digit 0 (omega arith) ∙ ap (λ n. get_or text n 0) (omega arith)))
     (c.digit_value-low.ensures ∙ ap (λ d. unwrap_or (hex_value d) 255) (digit 1 (omega arith)))

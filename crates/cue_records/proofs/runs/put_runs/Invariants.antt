@@ -4,7 +4,7 @@ use Rattle.cue_records.proofs.runs.put_runs.Given as goal
 
 abbrev pub invariant-loop-start : goal.invariant-loop-start
 invariant-loop-start l =
-    ArePut l.depth l.text l.codes l.start l.filled l.right × (length l.codes ≡ length l.fn.codes)
+    ArePut l.depth l.text l.codes l.start l.filled l.valid × (length l.codes ≡ length l.fn.codes)
 
 abbrev pub decreases-loop-start : goal.decreases-loop-start
 decreases-loop-start l = length l.text + 1 - l.start

@@ -1,4 +1,4 @@
-use Rattle.std.proofs.Common.{◌≡◌, ◌∙◌, ℕ, Some, None, ap, sym, subst, get_or, [], arith}
+use Rattle.std.proofs.Common.{◌≡◌, ◌∙◌, ℕ, Some, None, subst, get_or, [], arith}
 use Rattle.stream_syntax.specs.TransportPackets.{packet_fault}
 use Rattle.packet_walk.proofs.TellLaws.{taken_more, tells_one_more, tells_refused}
 use Rattle.packet_walk.proofs.walk.take_packets.Goals as goal

@@ -1,4 +1,4 @@
-use Rattle.std.proofs.Common.{◌≡◌, ◌∙◌, ℕ, List, Err, ap, refl, sym, subst, arith}
+use Rattle.std.proofs.Common.{◌∙◌, ℕ, Err, ap, refl, sym, subst, arith}
 use Rattle.packet_source.specs.declared.stream_end.StreamEnd.{StreamEnd}
 use Rattle.packet_walk.specs.Told.{Tells}
 use Rattle.packet_walk.proofs.WalkLaws.{RefusesAt, come_refused, come_taken, come_to_end, come_told, few_in_hand, nothing_walked, nothing_within, walked_on, walked_unwritten}

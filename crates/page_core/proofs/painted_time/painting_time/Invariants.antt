@@ -1,5 +1,5 @@
 -- The regions so far are painted, each of which has some bytes.
-use Rattle.std.proofs.Common.{◌≤◌, ◌+◌, ◌*◌, List, ℕ, length}
+use Rattle.std.proofs.Common.{◌≤◌, ◌+◌, ◌*◌, List, length}
 use Rattle.decoder_model.specs.Readings.{Content}
 use Rattle.page_core.specs.Handed.{AreContents}
 use Rattle.page_core.proofs.Pictures.PaintedTimes.{ArePainted}

@@ -1,4 +1,3 @@
-use Rattle.std.proofs.Common.{arith, inl, inr}
 use Rattle.pixel_store.proofs.Rows.{Fills-whole}
 use Rattle.pixel_store.proofs.extent.fill_whole.Goals as goal
 

@@ -1,6 +1,5 @@
-use Rattle.std.proofs.Common.{◌≡◌, ◌∙◌, ◌+◌, ◌-◌, ◌*◌, ◌<◌, ◌≤◌, [], ℕ, List, Bool, true, false, refl, sym, subst, arith}
+use Rattle.std.proofs.Common.{◌∙◌, ◌+◌, ◌-◌, [], true, false, refl, sym, subst, arith}
 use Rattle.command_text.specs.Putting.{PutsOut}
-use Rattle.packet_source.specs.declared.limits.TheConstants.{STREAM_LIMIT}
 use Rattle.sub_base.specs.Endpoints.{Supplied}
 use Rattle.sub_base.specs.Seen.{Seen, seen}
 use Rattle.sub_base.specs.declared.status.ToolStatus.{ToolStatus}

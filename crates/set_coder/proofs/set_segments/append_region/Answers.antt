@@ -1,4 +1,4 @@
-use Rattle.std.proofs.Common.{◌≡◌, ◌∙◌, ap, map, length, sym, subst, List}
+use Rattle.std.proofs.Common.{◌∙◌, ap, map, length, sym, subst, List}
 use Rattle.std.specs.List.{flat_map}
 use Rattle.std.proofs.lemmas.List.{length-map}
 use Rattle.stream_syntax.specs.Fields.{FitsFields}

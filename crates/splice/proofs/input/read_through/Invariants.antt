@@ -1,5 +1,5 @@
 -- The packets of the reads so far.
-use Rattle.std.proofs.Common.{◌≡◌, ◌+◌, ◌-◌, ◌≤◌}
+use Rattle.std.proofs.Common.{◌+◌, ◌-◌, ◌≤◌}
 use Rattle.set_receiver.specs.Receiving.{reception}
 use Rattle.packet_source.specs.InHand.{read_count}
 use Rattle.packet_source.specs.declared.limits.TheConstants.{STREAM_LIMIT}

@@ -1,4 +1,4 @@
-use Rattle.std.proofs.Common.{◌≡◌, ◌∙◌, ℕ, ◌+◌, ◌/◌, List, length, ap, arith}
+use Rattle.std.proofs.Common.{◌≡◌, ◌∙◌, ℕ, ◌/◌, List, length, ap, arith}
 use Rattle.packet_source.proofs.GaveLaws.{length-whole_packets}
 use Rattle.splice.proofs.input.whole_count.Goals as goal
 

@@ -1,4 +1,4 @@
-use Rattle.std.proofs.Common.{◌+◌, arith}
+use Rattle.std.proofs.Common.{arith}
 use Rattle.splice.proofs.SurveyLaws.{stopped_through, through_none, through_one}
 use Rattle.splice.proofs.survey.gone_through.Goals as goal
 

@@ -1,4 +1,3 @@
-use Rattle.std.proofs.Common.{Option, Some, None}
 use Rattle.command_text.proofs.ToolLaws.{tool_whole}
 use Rattle.stream_report.specs.FaultsOutcome.{faults_causes}
 use Rattle.stream_report.specs.FaultsWords.{faults_words}

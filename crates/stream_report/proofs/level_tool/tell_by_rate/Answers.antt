@@ -1,7 +1,7 @@
 -- What `levels` tells at a rate, by the end of its walk.
 use Rattle.std.proofs.Common.{◌≡◌, ◌∙◌, ℕ, ap, sym, subst}
 use Rattle.level_text.proofs.LevelLaws.{tells_as_made}
-use Rattle.level_text.specs.Levelling.{Levelling, levels_tell}
+use Rattle.level_text.specs.Levelling.{levels_tell}
 use Rattle.packet_walk.proofs.CloseLaws.{closed}
 use Rattle.packet_walk.proofs.EndLaws.{end_told}
 use Rattle.packet_walk.specs.Closing.{is_whole_end}

@@ -1,6 +1,5 @@
-use Rattle.std.proofs.Common.{Option, Some, None}
 use Rattle.command_text.proofs.ToolLaws.{tool_whole}
-use Rattle.stream_report.specs.PicturesOutcome.{HasPicturesRead, pictures_causes}
+use Rattle.stream_report.specs.PicturesOutcome.{pictures_causes}
 use Rattle.stream_report.specs.PicturesWords.{pictures_words}
 use Rattle.stream_report.specs.ReportOutcome.{report_fault_name}
 use Rattle.stream_report.proofs.PictureLaws.{pictures_answered}

@@ -1,4 +1,4 @@
-use Rattle.std.proofs.Common.{◌≡◌, length}
+use Rattle.std.proofs.Common.{length}
 use Rattle.display_sets.specs.Gathered.{ready_sets}
 use Rattle.receiver.specs.Receiving.{IsSame}
 use Rattle.stream_report.specs.Private.Picturing.{PicturesOn}

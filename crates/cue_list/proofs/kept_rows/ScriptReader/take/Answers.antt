@@ -4,7 +4,7 @@ use Rattle.csv.specs.Records.{fields_of}
 use Rattle.cue_list.specs.Private.State.{past_of}
 use Rattle.cue_list.specs.Private.Taken.{kept_of}
 use Rattle.cue_list.specs.SeenReaders.{seen_of}
-use Rattle.cue_list.specs.TakenRows.{IsRecordFault, Mark, TakesRow, next_fault}
+use Rattle.cue_list.specs.TakenRows.{Mark, TakesRow}
 use Rattle.cue_list.specs.declared.reader.Reader.{Reader}
 use Rattle.cue_list.proofs.StandsLaws.{IsCopy, IsTakenBy, left-marked, refused-inside, takes-inside}
 use Rattle.cue_list.proofs.kept_rows.ScriptReader.take.Goals as goal
@@ -36,6 +36,5 @@ returns-in-Err-take-clause-refused c = λ rows stands.
     let copied : IsCopy reader c.in-Ok.next =
     record { past = c.in-Ok.ensures.same; pictures = c.in-Ok.ensures.pictures }
     in
-    subst (IsRecordFault (next_fault font rows cells)) (sym c.record_fault.ensures)
-    (refused-inside font rows cells reader c.in-Ok.next (seen_of c.args.self.now) c.in-Err-take.fault refl copied
-    c.in-Err-take.ensures.refused stands)
+    refused-inside font rows cells reader c.in-Ok.next (seen_of c.args.self.now) c.in-Err-take.fault refl copied
+    c.in-Err-take.ensures.refused stands

@@ -14,4 +14,4 @@ returns-in-Ok-clause-head c =
 pub returns-in-Err-clause-refused : goal.returns-in-Err-clause-refused
 returns-in-Err-clause-refused c =
     set-refused-as c.args.font.now (chars c.args.text.now) c.in-Err.fault (past_of c.args.self.now) c.args.cue.placing
-    c.args.region c.row_fault_of.result c.row_fault_of.ensures c.in-Err.ensures.refused
+    c.args.region c.record_fault_of.result c.record_fault_of.ensures c.in-Err.ensures.refused

@@ -5,7 +5,7 @@ use Rattle.comp_pool.specs.Pool.{IsInList, list_of}
 use Rattle.comp_pool.specs.declared.node.NodeId.{NodeId}
 use Rattle.comp_pool.proofs.NodeLaws.{in_some_list, one_item}
 use Rattle.page_core.specs.Private.Listings.{painted_node}
-use Rattle.page_core.proofs.Objects.Repainting.{IsRepainting, node_is_listed, repainting_goes_on, nodes_end, faults_end, writing_is_whole}
+use Rattle.page_core.proofs.Objects.Repainting.{node_is_listed, repainting_goes_on, nodes_end, faults_end, writing_is_whole}
 use Rattle.page_core.proofs.Objects.Rewriting.{walk_shorter}
 use Rattle.page_core.proofs.composition.listings.paint_list.Goals as goal
 

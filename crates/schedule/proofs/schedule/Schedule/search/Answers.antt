@@ -1,11 +1,8 @@
 use Rattle.std.proofs.Common.{◌≡◌, ℕ, ◌+◌, ◌-◌, List, [], ◌∷◌, ◌++◌, length, arith, sym, subst, ap, ◌∙◌}
 use Rattle.sub_base.specs.declared.load.WriteLoad.{WriteLoad}
 use Rattle.sub_base.specs.declared.pace.Pace.{Pace}
-use Rattle.schedule.specs.Packets.{size_of, load_of}
-use Rattle.schedule.specs.declared.fault.ScheduleFault.TheVariants.{CodedFull, Late}
-use Rattle.schedule.specs.Arrivals.{IsArrival, IsEarliest, IsHopeless}
-use Rattle.sub_base.specs.Pace.{pace_of, done_tick, tick_of}
-use Rattle.schedule.specs.Slots.{IsSchedule}
+use Rattle.schedule.specs.Packets.{load_of}
+use Rattle.sub_base.specs.Pace.{done_tick, tick_of}
 use Rattle.schedule.specs.Refusals.{IsFirstLate}
 use Rattle.schedule.proofs.PacketLaws.{bytes_at, load_at, read_at}
 use Rattle.schedule.proofs.MakeLaws.{table_of, full-cause, IsScheduled, IsSent, IsScheduled-none, IsScheduled-more, late-cause, All-small, IsTable-of, some_slot}

@@ -1,4 +1,3 @@
-use Rattle.std.proofs.Common.{◌∙◌}
 use Rattle.stream_report.proofs.PictureLaws.{nothing_pictured}
 use Rattle.stream_report.proofs.pictures.Pictures.make.Goals as goal
 
