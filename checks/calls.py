@@ -44,6 +44,8 @@ TAIL = """
 
 DOC = re.compile(r"((?:^ *///.*\n)+)((?: *#\[.*\]\n)*)$", re.M)
 USE = re.compile(r"^pub use (?:crate::)?(\w+)(?:::\w+)*::(?:\{([^}]*)\}|(\w+));", re.M)
+OPEN_MODULE = re.compile(r"^pub mod (\w+);", re.M)
+ITEM = re.compile(r"^pub (?:const )?(?:fn|struct|enum|trait|const|static|type) (\w+)", re.M)
 CLAUSE = re.compile(r"\s*(requires|ensures)\s+(\w+ )?\s*(?=\{)")
 IMPL = re.compile(r"^impl(?:<[^{]*?>)? (?:([A-Z]\w*)(?:<.*?>)? for )?([A-Z]\w*)(?:<.*?>)?\s*\{", re.M)
 
@@ -61,14 +63,26 @@ def sources_of(crate):
     return {file: file.read_text() for file in files}
 
 
+def open_modules(crate):
+    """The modules of a crate that are public, whose items are called by their names too."""
+    return OPEN_MODULE.findall((TOP / "crates" / crate / "src" / "lib.rt").read_text())
+
+
 def names_out(crate):
-    """The names that the crate gives, each with the module that it comes from."""
-    names = {}
-    for module, several, single in USE.findall((TOP / "crates" / crate / "src" / "lib.rt").read_text()):
+    """The names that the crate gives, by itself or in a public module, each with the module that it comes from."""
+    names, folder = {}, TOP / "crates" / crate / "src"
+    for module, several, single in USE.findall((folder / "lib.rt").read_text()):
         for name in (several or single).replace("\n", " ").split(","):
             if name.strip():
                 names[name.split(" as ")[-1].strip()] = module
+    for module in open_modules(crate):
+        names.update(dict.fromkeys(ITEM.findall((folder / f"{module}.rt").read_text()), module))
     return names
+
+
+def path_to(name, names, crate):
+    """How a name of a crate is called: with its module, where that is public."""
+    return f"{names[name]}::{name}" if names[name] in open_modules(crate) else name
 
 
 def balanced(text, at):
@@ -99,7 +113,11 @@ def call_at(text, found):
     answer = re.compile(r"\s*->\s*").match(text, place)
     kind = ""
     if answer:
-        end = re.compile(r"\n\s*(?:requires|ensures|where|//|\{|$)|\s*[{;]").search(text, answer.end())
+        ends = re.compile(r"\n\s*(?:requires|ensures|where|//|\{|$)|\s*[{;]")
+        end = ends.search(text, answer.end())
+        # The `;` of an array's type is none.
+        while text.count("[", answer.end(), end.start()) > text.count("]", answer.end(), end.start()):
+            end = ends.search(text, end.end())
         kind, place = " ".join(text[answer.end() : end.start()].split()), end.start()
     asked, told = [], []
     while True:
@@ -136,18 +154,18 @@ def calls_of(crate):
         for found in re.finditer(r"^pub fn (\w+)[(<]", text, re.M):
             if names.get(found.group(1)) == file.stem:
                 kind, asked, told = call_at(text, found)
-                calls.append((found.group(1), first_sentence(text, found.start()), kind, asked, told))
+                calls.append((path_to(found.group(1), names, crate), first_sentence(text, found.start()), kind, asked, told))
         for found in re.finditer(r"^pub trait (\w+)[^{]*\{", text, re.M):
             if found.group(1) in names:
                 end = balanced(text, found.end() - 1)
-                calls += calls_in(text, found.end(), end, r"^    fn (\w+)[(<]", found.group(1))
+                calls += calls_in(text, found.end(), end, r"^    fn (\w+)[(<]", path_to(found.group(1), names, crate))
         for found in IMPL.finditer(text):
             trait, owner = found.groups()
             end = balanced(text, found.end() - 1)
             if owner in names and trait is None:
-                calls += calls_in(text, found.end(), end, r"^    pub fn (\w+)[(<]", owner)
+                calls += calls_in(text, found.end(), end, r"^    pub fn (\w+)[(<]", path_to(owner, names, crate))
             elif owner in names and trait == "Iterator":
-                calls += iterator_calls(text, found.end(), end, owner)
+                calls += iterator_calls(text, found.end(), end, path_to(owner, names, crate))
     return calls
 
 

@@ -12,10 +12,12 @@ of many languages, overlaps, odd marks. It is converted by examples/subtitles_to
 3. by `dump` against `expect`, at each tick that the script names;
 4. by libavcodec, where it is installed: it shows each set's picture as `dump`, pixel for pixel.
 
-Where `dvbsub` was not made yet, the first alone is tested (DVBSUB names another program). With words, those cases are
-taken whose names have one of them. Smooth letters want Pillow and a font of Debian's fonts-dejavu-core.
+Where `dvbsub` was not made yet, the first alone is tested (DVBSUB names another program); where it is older than its
+sources, it is made anew. With words, those cases are taken whose names have one of them. Smooth letters want Pillow and
+a font of Debian's fonts-dejavu-core.
 """
 
+import functools
 import os
 import random
 import re
@@ -28,6 +30,7 @@ import time
 TOP = os.path.dirname(os.path.dirname(os.path.abspath(__file__)))
 sys.path[:0] = [os.path.join(TOP, "examples"), os.path.join(TOP, "checks")]
 
+import made_programs  # noqa: E402
 import players  # noqa: E402
 from subtitle_files import FORMATS, KINDS  # noqa: E402
 from subtitles import rules  # noqa: E402
@@ -35,7 +38,6 @@ from subtitles.bdf import Font  # noqa: E402
 
 EXAMPLES = os.path.join(TOP, "examples")
 MADE = os.path.join(TOP, "crates", "dvbsub", "out", "dvbsub")
-PROGRAM = os.environ.get("DVBSUB", MADE)
 SMOOTH = "/usr/share/fonts/truetype/dejavu/DejaVuSans.ttf"
 PID, PAGE, MOST_TICKS = 256, 1, 500
 # Each case: kind of cues, format, profile, font, and further options of the converter.
@@ -58,6 +60,12 @@ CASES += [
 
 def run(*words):
     return subprocess.run([str(word) for word in words], stdout=subprocess.PIPE, stderr=subprocess.PIPE, text=True, check=False)
+
+
+@functools.cache
+def program():
+    """The program that is tested, or None where it was not made yet."""
+    return os.environ.get("DVBSUB") or (made_programs.path_of("dvbsub") if os.path.exists(MADE) else None)
 
 
 def python_with_pillow():
@@ -158,7 +166,7 @@ class Case:
 
     def done(self, *words):
         """Runs the program; a line other than `done` is a fault."""
-        line = run(PROGRAM, *words).stdout.strip()
+        line = run(program(), *words).stdout.strip()
         if line != "done":
             self.fault(f"{words[0]}: {line}")
         return line == "done"
@@ -171,7 +179,10 @@ class Case:
             self.fault(f"the converter ends with {ended.returncode}: {ended.stderr.strip()[-300:]}")
             return []
         self.told = ended.stdout
-        return re.findall(r"^(\S+): \d+ records\. dvbsub compile \S+ \d+ \d+ \S+ (\S+) ", ended.stdout, re.M)
+        scripts = re.findall(r"^(\S+): \d+ records\. dvbsub compile \S+ \d+ \d+ \S+ (\S+) ", ended.stdout, re.M)
+        if not scripts:
+            self.fault("the converter names no script")
+        return scripts
 
     def test(self, script, font, reader):
         """Tests one script; answers how many sets it has, and how many of them libavcodec was asked for."""
@@ -186,7 +197,7 @@ class Case:
         except rules.Refusal as line:
             self.fault(f"refused by the rules: {line}")
             return 0, 0
-        if not os.path.exists(PROGRAM):
+        if not program():
             return len(planned), 0
         stream = self.at("out.ts")
         if not self.done("compile", self.profile, PID, PAGE, script, font, stream):
@@ -252,8 +263,8 @@ def main(words):
     pillow, bad, asked, counts = python_with_pillow(), 0, 0, [0, 0]
     with tempfile.TemporaryDirectory() as top:
         reader = reader_in(top)
-        good = "taken, and shown as asked" if os.path.exists(PROGRAM) else "taken by the rules"
-        if not os.path.exists(PROGRAM):
+        good = "taken, and shown as asked" if program() else "taken by the rules"
+        if not program():
             print("dvbsub is not made: by the rules alone")
         elif not reader:
             print("libavcodec's headers are not installed: not compared with it")

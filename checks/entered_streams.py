@@ -24,6 +24,11 @@ def run(*words):
     return subprocess.run([PROGRAM, *words], stdout=subprocess.PIPE, check=False).stdout.decode().strip()
 
 
+def last_line(name):
+    with open(name, encoding="utf-8") as lines:
+        return (lines.read().splitlines() or ["nothing"])[-1]
+
+
 def entered(profile, script, font, folder):
     """How many entries were checked, and those at which something else than `breach none` came."""
     stream, part, told = (os.path.join(folder, name) for name in ("stream.ts", "part.ts", "check.txt"))
@@ -41,10 +46,11 @@ def entered(profile, script, font, folder):
     for missed in places:
         with open(part, "wb") as packets:
             packets.write(data[188 * missed :])
+        if os.path.exists(told):
+            os.remove(told)
         note = run("check", profile, str((origin + missed * STEPS[profile]) % ROUND), "256", "1", part, told)
-        with open(told, encoding="utf-8") as lines:
-            last = lines.read().splitlines()[-1]
-        if note != "done" or last != "breach none":
+        last = last_line(told) if note == "done" else "nothing"
+        if last != "breach none":
             bad.append(f"behind {missed} packets: {note}, {last}")
     return len(places), bad
 

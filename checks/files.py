@@ -21,9 +21,10 @@ import tempfile
 import threading
 import time
 
-TOP = os.path.dirname(os.path.dirname(os.path.abspath(__file__)))
-# The program itself, and not the script that makes it: each run is killed or measured by itself.
-PROGRAM = os.path.abspath(sys.argv[1]) if len(sys.argv) > 1 else os.path.join(TOP, "crates", "dvbsub", "out", "dvbsub")
+import made_programs
+
+# The copy of the program that is run: `main` makes it.
+PROGRAM = None
 OLD = b"what was there before\n" * 40
 runs = wrong = 0
 
@@ -552,10 +553,12 @@ KINDS = {
 
 def main():
     global PROGRAM
+    # The program itself, and not the script that makes it: each run is killed or measured by itself.
+    program = sys.argv[1] if len(sys.argv) > 1 else made_programs.path_of("dvbsub")
     scratch = tempfile.mkdtemp(prefix="dvbsub-files-")
     os.chmod(scratch, 0o755)
     # Where nobody can run it as well.
-    PROGRAM = shutil.copy(PROGRAM, os.path.join(scratch, "program"))
+    PROGRAM = shutil.copy(program, os.path.join(scratch, "program"))
     os.chmod(PROGRAM, 0o755)
     try:
         path = os.path.join(scratch, "work")
@@ -566,7 +569,7 @@ def main():
     finally:
         shutil.rmtree(scratch, ignore_errors=True)
     print("%d runs, %d wrong" % (runs, wrong))
-    return 1 if wrong else 0
+    return 1 if wrong or not runs else 0
 
 
 if __name__ == "__main__":

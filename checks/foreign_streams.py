@@ -205,7 +205,8 @@ def main():
                 check("libavcodec " + name, "libavcodec", colours, size, lambda path: by_ffmpeg(whole, ["-c:s", "dvbsub"], path))
         own = os.path.join(folder, "own.ts")
         script, font = (os.path.join(TOP, "examples", name) for name in ("subtitle.csv", "television.bdf"))
-        quiet([PROGRAM, "compile", "sd", "256", "1", script, font, own])
+        if not quiet([PROGRAM, "compile", "sd", "256", "1", script, font, own]):
+            sys.exit(f"{script} is not compiled")
         import players
         with open(own, "rb") as file:
             stream = players.with_tables(file.read(), 1, 1)

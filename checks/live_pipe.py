@@ -9,7 +9,8 @@
    them, and the part of a record is refused.
 3. `live` itself is killed: what was due by the last tick is in OUT, and nothing but what `compile` writes of the records so far.
 
-Works in FOLDER, or in a folder that is removed again. The last line is 'N runs, M wrong'; status 1 where one was wrong.
+Works in FOLDER, or in a folder that is removed again. The programs are those of the repository, or those that the variables DVBSUB and
+DVBSUB_TOOLS name. The last line is 'N runs, M wrong'; status 1 where one was wrong.
 """
 import os
 import pathlib
@@ -19,10 +20,9 @@ import sys
 import tempfile
 import time
 
+import made_programs
+
 TOP = pathlib.Path(__file__).resolve().parent.parent
-# The programs themselves, and not the scripts that make them: they are measured and killed by themselves.
-COMPILER = pathlib.Path(os.environ.get("DVBSUB", TOP / "crates" / "dvbsub" / "out" / "dvbsub"))
-TOOLS = pathlib.Path(os.environ.get("DVBSUB_TOOLS", TOP / "crates" / "dvbsub_tools" / "out" / "dvbsub_tools"))
 FONT = TOP / "examples" / "subtitle.bdf"
 SECOND = 90_000
 # The ticks of a slot of the profile `sd`, and how far behind a tick a later record has to begin.
@@ -33,6 +33,15 @@ HEAD = ["origin,0", "display,720,576", "refresh,5", "epoch,900000", "region,0,0,
 # Longer than any record may take: then the run is given up.
 PATIENCE = 30
 runs = wrong = 0
+
+
+def compiler():
+    """The program itself, as `tools` too: they are measured and killed by themselves."""
+    return os.environ.get("DVBSUB") or made_programs.path_of("dvbsub")
+
+
+def tools():
+    return os.environ.get("DVBSUB_TOOLS") or made_programs.path_of("dvbsub_tools")
 
 
 def told(good, line):
@@ -56,7 +65,7 @@ def compiled(folder, rows):
     """What the compiler makes of these records, but for the ticks."""
     script, out = folder / "accepted.csv", folder / "compiled.ts"
     script.write_text("".join(row + "\n" for row in rows if not row.startswith("tick")))
-    subprocess.run([COMPILER, "compile", "sd", "256", "1", script, FONT, out], stdout=subprocess.PIPE, check=True)
+    subprocess.run([compiler(), "compile", "sd", "256", "1", script, FONT, out], stdout=subprocess.PIPE, check=True)
     return out.read_bytes()
 
 
@@ -69,9 +78,23 @@ class Live:
         self.fifo = folder / "script.fifo"
         self.fifo.unlink(missing_ok=True)
         os.mkfifo(self.fifo)
-        words = [TOOLS, "live", "sd", "256", "1", self.fifo, FONT, self.out]
+        words = [tools(), "live", "sd", "256", "1", self.fifo, FONT, self.out]
         self.run = subprocess.Popen(words, stdout=subprocess.PIPE, stderr=subprocess.DEVNULL, text=True)
-        self.script = open(self.fifo, "w", encoding="utf-8", buffering=1)
+        self.script = self.opened()
+
+    def opened(self):
+        """The FIFO to write to, as soon as `live` reads it; where it never does, that is the end."""
+        end = time.monotonic() + PATIENCE
+        while self.run.poll() is None and time.monotonic() < end:
+            try:
+                number = os.open(self.fifo, os.O_WRONLY | os.O_NONBLOCK)
+            except OSError:
+                time.sleep(0.001)
+                continue
+            os.set_blocking(number, True)
+            return open(number, "w", encoding="utf-8", buffering=1)
+        self.run.kill()
+        return sys.exit(f"live does not read its script: {self.run.stdout.read().strip()}")
 
     def send(self, row):
         self.script.write(row + "\n")
@@ -131,7 +154,7 @@ def killed_writer(folder):
     fifo.unlink(missing_ok=True)
     out.unlink(missing_ok=True)
     os.mkfifo(fifo)
-    run = subprocess.Popen([TOOLS, "live", "sd", "256", "1", fifo, FONT, out], stdout=subprocess.PIPE, stderr=subprocess.DEVNULL, text=True)
+    run = subprocess.Popen([tools(), "live", "sd", "256", "1", fifo, FONT, out], stdout=subprocess.PIPE, stderr=subprocess.DEVNULL, text=True)
     text = "".join(row + "\n" for row in rows) + "cue,1548000,17"
     writer = subprocess.Popen([sys.executable, "-c", "import sys, time\nfile = open(sys.argv[1], 'w')\nfile.write(sys.argv[2])\nfile.flush()\ntime.sleep(60)", fifo, text])
     time.sleep(1)
@@ -163,6 +186,8 @@ def killed_live(folder):
 
 def main():
     given = sys.argv[1:]
+    # Both are made before anything is measured.
+    compiler(), tools()
     with tempfile.TemporaryDirectory() as room:
         folder = pathlib.Path(given[0] if given else room)
         folder.mkdir(parents=True, exist_ok=True)

@@ -1,18 +1,19 @@
 #!/usr/bin/env python3
 """Lines that are longer than the limit: 100 columns in code and clauses, 120 in definitions and proofs. To be run after `rt fmt`.
 
-    python3 checks/long_lines.py                 how many there are, by file; status 1 where there are some
+    python3 checks/long_lines.py                 how many there are, by file; status 1 where there are some, or no file is found
     python3 checks/long_lines.py --break FILE..  breaks them at an operator of the least depth
 
 A broken line goes on four columns further in. A paragraph of comments with a long line is wrapped anew. Imports, lines
 with texts, and lines with a name of more than 100 columns (the prover's, of a case) stay as they are. A file whose lines were broken is to be read again: the place that is
 found is the one of least depth, and not always the one that reads best.
 """
-import glob
+import pathlib
 import re
 import sys
 import textwrap
 
+TOP = pathlib.Path(__file__).resolve().parent.parent
 OPENING, CLOSING = "([{", ")]}"
 # Before what a line may be broken, what binds least first.
 OPERATORS = [[" → ", " × ", " ⊎ "], [" then ", " else "], [" || "], [" && "], [" ∙ ", " ++ ", " ∷ "], [" ≡ ", " ≤ ", " < "]]
@@ -23,21 +24,22 @@ INDENT = 4
 
 
 def limit_of(path):
-    return 100 if path.endswith(".rt") else 120
+    return 100 if pathlib.Path(path).suffix == ".rt" else 120
+
+
+def sources():
+    """The files of code, definitions and proofs of all crates, in folders of any depth."""
+    patterns = ("src/**/*.rt", "specs/**/*.antt", "proofs/**/*.antt")
+    return sorted(path for pattern in patterns for path in TOP.glob(f"crates/*/{pattern}"))
 
 
 def is_long(line, limit):
     """Views and invariants of a type are definitions, which the formatter leaves on one line."""
-    return columns(line) > (120 if line.lstrip().startswith("ghost ") else limit)
-
-
-def columns(line):
-    """How many characters a line has."""
-    return len(line)
+    return len(line) > (120 if line.lstrip().startswith("ghost ") else limit)
 
 
 def is_left_alone(line):
-    is_of_one_word = any(columns(word) > 100 for word in line.split())
+    is_of_one_word = any(len(word) > 100 for word in line.split())
     return line.lstrip().startswith(("use ", "ghost use ", "--", "//", "#[")) or '"' in line or is_of_one_word
 
 
@@ -83,10 +85,8 @@ def broken(line, limit):
         return [line]
     further = " " * (len(line) - len(line.lstrip(" ")) + INDENT)
     lines, rest = [], line
-    most = limit
-    while columns(rest) > most:
+    while len(rest) > limit:
         start = len(rest) - len(rest.lstrip(" "))
-        limit = most + len(rest[:most]) - columns(rest[:most])
         best = best_place(rest, limit, start)
         equals = rest.find(" = ", start)
         if not lines and -1 < equals < limit and depths(rest)[equals] == 0 and (
@@ -153,16 +153,15 @@ def main(arguments):
                 file.write("\n".join(lines))
         return
     total = 0
-    paths = glob.glob("crates/*/src/*.rt")
-    for folder in ("specs", "proofs"):
-        paths += glob.glob(f"crates/*/{folder}/**/*.antt", recursive=True)
-    for path in sorted(paths):
+    paths = sources()
+    for path in paths:
         count = count_long(path)
         total += count
         if count:
-            print(f"{count:4} {path}")
-    print(f"{total:4} in all")
-    sys.exit(total > 0)
+            print(f"{count:4} {path.relative_to(TOP)}")
+    print(f"{total:4} in all, of {len(paths)} files")
+    sys.exit(total > 0 or not paths)
 
 
-main(sys.argv[1:])
+if __name__ == "__main__":
+    main(sys.argv[1:])

@@ -23,9 +23,14 @@ MOST_TICKS = 1000
 MOST_LOST = 14
 
 
-def run(*words):
-    """The line that the program prints."""
-    return subprocess.run([PROGRAM, *words], stdout=subprocess.PIPE, check=False).stdout.decode().strip()
+def run(out, *words):
+    """Runs the program, whose output is that file: it is not there before, and the program has to be done with it."""
+    if os.path.exists(out):
+        os.remove(out)
+    done = subprocess.run([PROGRAM, *words], stdout=subprocess.PIPE, check=False)
+    note = done.stdout.decode().strip()
+    if done.returncode or note != "done":
+        raise ValueError(f"{words[0]}: status {done.returncode}, {note}")
 
 
 def payload(packet):
@@ -63,11 +68,9 @@ class Stream:
 
     def __init__(self, profile, script, font, folder):
         self.profile = profile
-        self.part, self.told = (os.path.join(folder, name) for name in ("part.ts", "told.txt"))
-        whole = os.path.join(folder, "whole.ts")
-        note = run("compile", profile, "256", "1", script, font, whole)
-        if note != "done":
-            raise ValueError(f"not compiled: {note}")
+        names = ("whole.ts", "part.ts", "sets.txt", "authored.txt", "shown.txt")
+        whole, self.part, told, authored, self.told = (os.path.join(folder, name) for name in names)
+        run(whole, "compile", profile, "256", "1", script, font, whole)
         with open(script, encoding="utf-8") as rows:
             origin = rows.readline().strip().split(",")[1]
         with open(whole, "rb") as stream:
@@ -75,22 +78,29 @@ class Stream:
         places = range(0, len(data), PACKET)
         self.packets = [data[k : k + PACKET] for k in places if data[k + 1 : k + 3] != b"\x1f\xff"]
         self.numbers, self.entries = sets_of(self.packets)
-        run("check", profile, str(int(origin) % (1 << 33)), "256", "1", whole, self.told)
-        with open(self.told, encoding="utf-8") as lines:
+        run(told, "check", profile, str(int(origin) % (1 << 33)), "256", "1", whole, told)
+        with open(told, encoding="utf-8") as lines:
             self.times = [int(line.split()[1]) for line in lines if line.startswith("set ")]
-        if len(self.times) != len(self.entries):
+        if not self.times or len(self.times) != len(self.entries):
             raise ValueError(f"{len(self.times)} sets are told, and {len(self.entries)} are in the packets")
-        ticks = sorted(set(self.times) | {time - 1 for time in self.times[1:]} | {self.times[-1] + 90_000 if self.times else 0})
+        ticks = sorted(set(self.times) | {time - 1 for time in self.times[1:]} | {self.times[-1] + 90_000})
         self.ticks = ticks[:MOST_TICKS]
-        run("expect", script, font, self.told, *map(str, self.ticks))
-        self.authored = pictures(self.told)
+        run(authored, "expect", script, font, authored, *map(str, self.ticks))
+        self.authored = self.asked(authored)
+
+    def asked(self, name):
+        """The pictures in a text, which has to have one for each tick that was asked for."""
+        found = pictures(name)
+        if sorted(found) != self.ticks:
+            raise ValueError(f"{len(found)} pictures for {len(self.ticks)} ticks")
+        return found
 
     def shown(self, packets):
         """What a receiver shows of packets at the ticks."""
         with open(self.part, "wb") as stream:
             stream.write(b"".join(packets))
-        run("dump", self.profile, "256", "1", "1", self.part, self.told, *map(str, self.ticks))
-        return pictures(self.told)
+        run(self.told, "dump", self.profile, "256", "1", "1", self.part, self.told, *map(str, self.ticks))
+        return self.asked(self.told)
 
     def good_ticks(self, missing):
         """The ticks at which the picture is the authored one where the packets with these numbers are missing."""
@@ -109,7 +119,7 @@ class Stream:
     def differs(self, packets, missing):
         """The good ticks at which another picture is shown than the authored one."""
         shown = self.shown(packets)
-        return [tick for tick in self.good_ticks(missing) if shown.get(tick) != self.authored[tick]]
+        return [tick for tick in self.good_ticks(missing) if shown[tick] != self.authored[tick]]
 
 
 def flagged(packet):
@@ -143,6 +153,8 @@ def compared(stream):
     twice = [packet for packet in stream.packets for _ in range(2)]
     if stream.shown(twice) != stream.shown(stream.packets):
         bad.append("each packet twice: other pictures")
+    if not ticks:
+        bad.append("there is no good tick, so that nothing was compared")
     return tried + 1, ticks, bad
 
 
@@ -160,7 +172,7 @@ def main(words):
             print(f"{script}: {tried} streams, {ticks} good ticks")
             print("".join(f"    {line}\n" for line in bad), end="")
             total, faulty = total + tried, faulty + len(bad)
-    print(f"{total} streams, {faulty} with another picture")
+    print(f"{total} streams, {faulty} wrong")
     return 1 if faulty or not total else 0
 
 

@@ -35,6 +35,8 @@ def run(*words):
 def shown(stream, pid, page, folder):
     """The pictures at the times of the kept sets, in order, and these times."""
     levels, pictures = os.path.join(folder, "check.txt"), os.path.join(folder, "dump.txt")
+    for told in filter(os.path.exists, (levels, pictures)):
+        os.remove(told)
     run(PROGRAM, "check", "sd", 0, pid, page, stream, levels)
     ticks = []
     for line in open(levels):
@@ -44,7 +46,7 @@ def shown(stream, pid, page, folder):
     run(PROGRAM, "dump", "sd", pid, page, 1, stream, pictures, *ticks)
     texts, text = [], []
     for line in open(pictures):
-        if line.startswith("picture") or line.startswith("clear"):
+        if line.startswith("picture"):
             if text:
                 texts.append("".join(text))
             text = []
@@ -52,6 +54,8 @@ def shown(stream, pid, page, folder):
             line = " ".join([words[0]] + words[2:]) + "\n"
         text.append(line)
     texts.append("".join(text))
+    if len(texts) != len(ticks):
+        sys.exit(f"{stream}: {len(texts)} pictures at {len(ticks)} times")
     return texts, ticks
 
 

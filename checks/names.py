@@ -5,7 +5,7 @@
 
 A type or a relation (a name with a capital letter) stands in one crate alone, so that a reader of a contract knows which is meant. Functions that compute
 (`pid_of`, `size_of`) are read with their module's name, and may stand in several. Definitions in `specs/Private` are their crate's own. Ends with 1 where a
-name stands twice.
+name stands twice, or none is found.
 """
 
 import collections
@@ -34,7 +34,7 @@ def main():
     for name, crates in sorted(twice.items()):
         print(f"{name}: " + ", ".join(f"{crate} ({' '.join(sorted(modules))})" for crate, modules in crates.items()))
     print(f"{len(found)} names, {len(twice)} in several crates")
-    return 1 if twice else 0
+    return 1 if twice or not found else 0
 
 
 if __name__ == "__main__":

@@ -41,6 +41,7 @@ def commands_of(section):
         elif block:
             blocks.append("\n".join(block))
             block = []
+    assert blocks, f"the section {section} has no commands"
     return blocks
 
 
@@ -116,7 +117,7 @@ def check_sets(folder, programme):
     subprocess.run(words, cwd=folder, stdout=subprocess.DEVNULL, check=True)
     pid = int.from_bytes((folder / "taken.ts").read_bytes()[1:3], "big") & 0x1FFF
     sent, taken = times_in(folder, "evening.ts", 256), times_in(folder, "taken.ts", pid)
-    assert sent == taken, f"{sent} were sent, {taken} are in {programme}"
+    assert sent and sent == taken, f"{sent} were sent, {taken} are in {programme}"
     print(f"{programme}: {len(taken)} sets have the script's times")
 
 

@@ -8,8 +8,8 @@ FOLDER and its folders (`*.csv`; without a word, of examples/), with a picture i
 of either page that enters behind j packets has to show nothing up to the time of the first set that comes whole and is no normal one,
 and from then on what `expect` authors, at all ticks at which something changes, and the ones before them. Where j packets and a null
 packet behind them are missing, nothing else is asked than where j + 1 are, so that only the packets of the PID and those behind them
-are looked at. The sets are read out of the stream here, by the layouts of ISO/IEC 13818-1 and EN 300 743. Where `dvbsub_tools` has no
-`pair`, nothing is run, and that is said.
+are looked at. The sets are read out of the stream here, by the layouts of ISO/IEC 13818-1 and EN 300 743. `pair` may refuse a pair of
+scripts, but not end in another way.
 """
 
 import concurrent.futures
@@ -221,12 +221,14 @@ def entered(profile, both, folder):
         written(rows, path)
     note = run(TOOLS, "pair", profile, str(PID), *map(str, PAGES), str(ANCILLARY), *scripts, stream)
     if note != "done":
-        return note, 0, []
+        return note, 0, [] if note.startswith("refused ") else [f"pair: {note}"]
     origin = int(both[0][0][1])
     with open(stream, "rb") as packets:
         data = packets.read()
     count = len(data) // 188
     sets = [(first, lifted(time, origin), states) for first, time, states in sets_of(data)]
+    if not sets:
+        return note, 0, ["the stream has no set"]
     ticks = ticks_of(both[0] + both[1], [time for _, time, _ in sets])
     asked = [str(tick) for tick in ticks]
     wanted = []
@@ -265,15 +267,7 @@ def paired(name, profile, rows, number):
     return name, profile, note, checked, bad
 
 
-def has_tool():
-    """Whether dvbsub_tools has the word `pair`: then it misses the files of right words, and else it says `usage`."""
-    return run(TOOLS, "pair", "sd", str(PID), "1", "2", "3", "no/one.csv", "no/two.csv", "no/out.ts") != "usage"
-
-
 def main(words):
-    if not has_tool():
-        print("not run: dvbsub_tools has no `pair`")
-        return 0
     top = words[0] if words else os.path.join(TOP, "examples")
     jobs = []
     for folder, _, names in sorted(os.walk(top)):

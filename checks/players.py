@@ -26,6 +26,11 @@ TOOLS = os.environ.get("DVBSUB_TOOLS", os.path.join(TOP, "dvbsub_tools"))
 PID, PAGE, TABLE_PID = 256, 1, 32
 PAIRS = 3
 ROUND = 1 << 33
+REFUSED = 3
+
+
+class NoStream(Exception):
+    """libavformat finds no stream in what it is given."""
 
 
 def crc(data):
@@ -147,7 +152,8 @@ def compare(folder, reader, stream, pages, dump):
     wrapped, text, sets = (os.path.join(folder, name) for name in ("w.ts", "d.txt", "sets"))
     with open(stream, "rb") as file, open(wrapped, "wb") as out:
         out.write(with_tables(file.read(), *pages))
-    subprocess.run([reader, wrapped, sets], check=True, stderr=subprocess.DEVNULL)
+    if subprocess.run([reader, wrapped, sets], stderr=subprocess.DEVNULL).returncode:
+        raise NoStream(stream)
     with open(sets, "rb") as file:
         shown = read_sets(file.read())
     listed = os.path.join(folder, "list.txt")
@@ -169,11 +175,18 @@ def compare(folder, reader, stream, pages, dump):
     return len(times), wrong
 
 
+def is_refused(words):
+    """Whether a command refuses its inputs; where it is neither that nor done, that is the end."""
+    done = subprocess.run(words, stdout=subprocess.PIPE, stderr=subprocess.DEVNULL)
+    if done.returncode not in (0, REFUSED):
+        sys.exit(f"{' '.join(words)}: status {done.returncode}")
+    return done.returncode == REFUSED
+
+
 def compare_script(folder, reader, profile, script, font):
     """How many sets a script has, and how many libavcodec shows otherwise; None where it is not compiled."""
     stream = os.path.join(folder, "s.ts")
-    run = [PROGRAM, "compile", profile, str(PID), str(PAGE), script, font, stream]
-    if subprocess.run(run, stdout=subprocess.PIPE).returncode:
+    if is_refused([PROGRAM, "compile", profile, str(PID), str(PAGE), script, font, stream]):
         return None
     return compare(folder, reader, stream, (PAGE, PAGE), [PROGRAM, "dump", profile, str(PID), str(PAGE), "4"])
 
@@ -223,16 +236,15 @@ def compare_pair(folder, reader, number):
         with open(path) as file:
             known.append(has_known_fault(file.read()))
     stream = os.path.join(folder, "p.ts")
-    run = [TOOLS, "pair", "hd", str(PID), "1", "2", "3", *scripts, stream]
-    if any(known) or subprocess.run(run, stdout=subprocess.PIPE, stderr=subprocess.DEVNULL).returncode or has_number_again(stream):
+    if any(known) or is_refused([TOOLS, "pair", "hd", str(PID), "1", "2", "3", *scripts, stream]) or has_number_again(stream):
         return None
     try:
         alone = [compare_script(folder, reader, "hd", path, "none") for path in scripts]
         if any(wrong for _, wrong in alone):
             return None
         found = [compare(folder, reader, stream, (page, 3), [TOOLS, "pairdump", "hd", str(PID), str(page), "3", "4"]) for page in (1, 2)]
-    except subprocess.CalledProcessError:
-        # libavformat finds no stream in what is as short as that.
+    except NoStream:
+        # They are too short.
         return None
     return tuple(map(sum, zip(*found)))
 
@@ -276,6 +288,7 @@ def main():
             all_sets += found[0]
             bad += found[1] if not known else 0
         print("%d scripts, %d sets, %d differ" % (len(scripts), all_sets, bad))
+        bad += not all_sets
         if not words:
             bad += compare_pairs(folder, reader)
     return 1 if bad else 0

@@ -4,8 +4,9 @@
 
 For numbers N from 1 on, `rt try CRATE --test --fail-alloc N` runs each test of the crate, in a process of its own, with its Nth allocation
 refused. Each public call that takes memory is called in such a test. A test may pass, end with the error of the
-call, or find the answer for want of memory where it wanted another one. A fault, a test that does not end, and any other answer is
-printed: there must be none. A crate is done with the first N at which every test passes, as no test takes memory so often.
+call (by itself or by `expect`), or find the answer for want of memory where it wanted another one. A fault, a test that does not end, and
+any other answer is printed: there must be none, and some test has to meet a refusal. A crate is done with the first N at which every test
+passes, as no test takes memory so often.
 
 Each run makes the tests anew, without proving anything, in 30 to 90 processor seconds, so not every number is tried: the first eight, in
 which the calls of the lower crates take what they take, and then each that is a third greater than the one before. With --all each number
@@ -25,7 +26,7 @@ MOST = 4096
 # So many numbers are tried one by one.
 FIRST = 8
 
-# How a test that was handed the refusal may end: by the error itself, or by an answer that was compared with another one.
+# What a test shows that was handed the refusal: behind the words of `expect`, or as an answer that was compared with another one.
 WANT = re.compile(r"Memory|AllocFailed|AllocError|WriteFailed|WriteFault|\[109, 101, 109, 111, 114, 121, 10\]|memory")
 
 
@@ -63,7 +64,9 @@ def is_right(end, told):
         return True
     if "the test failed: its result gives status 1" in told:
         return True
-    return "assertion" in told and "SIGABRT" in told and bool(WANT.search(told))
+    first = told.strip().partition("\n")[0]
+    shown = told if first.startswith("assertion") else first.partition(": ")[2]
+    return "SIGABRT" in told and bool(WANT.search(shown))
 
 
 def numbers(first, last, every):
@@ -75,18 +78,19 @@ def numbers(first, last, every):
 
 
 def check(crate, tried):
-    """How many runs of tests there were, the last number, and the tests that ended otherwise than they may."""
-    runs, bad, number = 0, [], 0
+    """How many runs of tests there were, the last number, how many of the tests did not pass, and those that ended otherwise than they may."""
+    runs, ended, bad, number = 0, 0, [], 0
     for number in tried:
         all_pass = True
         for name, end, told in outcomes(crate, number):
             runs += 1
+            ended += end != "ok"
             all_pass = all_pass and end == "ok"
             if not is_right(end, told):
                 bad.append(f"{crate} {name}, allocation {number}: {end} {told}")
         if all_pass:
             break
-    return f"{crate}: up to allocation {number}, {runs} runs of tests, {len(bad)} wrong", bad
+    return f"{crate}: up to allocation {number}, {runs} runs of tests, {ended} ended by a refusal, {len(bad)} wrong", ended, bad
 
 
 def asked(words):
@@ -101,13 +105,15 @@ def asked(words):
 
 def main(words):
     jobs = int(words[words.index("--jobs") + 1]) if "--jobs" in words else 4
-    total = 0
+    refusals = total = 0
     with ThreadPoolExecutor(max_workers=jobs) as workers:
-        for line, bad in workers.map(lambda pair: check(*pair), asked(words)):
+        for line, ended, bad in workers.map(lambda pair: check(*pair), asked(words)):
             print(line, flush=True)
             print("".join(f"    {told}\n" for told in bad), end="", flush=True)
-            total += len(bad)
-    return 1 if total else 0
+            refusals, total = refusals + ended, total + len(bad)
+    if not refusals:
+        print("no test met a refusal: nothing was tried")
+    return 1 if total or not refusals else 0
 
 
 if __name__ == "__main__":

@@ -4,9 +4,10 @@
 
 The program is that of the repository, or the one that the variable DVBSUB names. A small library, which `cc` makes here, stands before
 the program's calls for memory: it counts those that the program's own code makes, and refuses the one with the number that is asked for.
-Each command is run once with nothing refused, and then once for each of its calls for memory. It has to end as without a refusal, or
-with `memory` and status 7, or, where the name of a file found no memory, as over a file that cannot be opened. OUT is then as it was, not
-made. Any other end is printed: there must be none. The commands make 33 to 884 calls each, 2,953 in all, which takes ten seconds.
+Each command is run once with nothing refused, and then once for each of its calls for memory. With nothing refused it has to be done,
+and to have such calls. With a refusal it has to end as without one, or with `memory` and status 7, or, where the name of a file found no
+memory, as over a file that cannot be opened. OUT is then as it was, not made. Any other end is printed: there must be none. The commands
+make 33 to 884 calls each, 2,953 in all, which takes ten seconds.
 """
 
 import os
@@ -97,12 +98,13 @@ def commands(folder):
     yield ["gen", "17", "sd"], []
 
 
-def run(library, folder, number, words, ticks):
+def run(preloaded, folder, number, words, ticks):
     """The code and the line of a command whose call for memory of that number is refused, what is in OUT, and how many calls there were."""
+    program, library = preloaded
     out, counted = os.path.join(folder, f"out{number}"), os.path.join(folder, f"count{number}")
     variables = dict(os.environ, LD_PRELOAD=library, REFUSED=str(number), COUNTED=counted)
     done = subprocess.run(
-        [valgrind.PROGRAM, *words, out, *ticks], env=variables, stdout=subprocess.PIPE, stderr=subprocess.DEVNULL, timeout=600, check=False
+        [program, *words, out, *ticks], env=variables, stdout=subprocess.PIPE, stderr=subprocess.DEVNULL, timeout=600, check=False
     )
     written = None
     if os.path.exists(out):
@@ -117,12 +119,15 @@ def run(library, folder, number, words, ticks):
     return (done.returncode, done.stdout.decode().strip(), written), calls
 
 
-def check(library, words, ticks, workers):
+def check(preloaded, words, ticks, workers):
     """Prints how the runs of a command end, and answers how many end otherwise than they may."""
     with tempfile.TemporaryDirectory() as folder:
-        whole, calls = run(library, folder, 0, words, ticks)
+        whole, calls = run(preloaded, folder, 0, words, ticks)
+        if whole[:2] != (0, "done") or whole[2] is None or not calls:
+            print(f"{words[0]} {words[1]}: WRONG with nothing refused: {whole[0]} {whole[1]}, {calls} calls for memory", flush=True)
+            return 1
         numbers = range(1, calls + 1)
-        ends = list(workers.map(lambda number: run(library, folder, number, words, ticks)[0], numbers))
+        ends = list(workers.map(lambda number: run(preloaded, folder, number, words, ticks)[0], numbers))
     bad = [
         f"{' '.join(words)}: call {number}: {end[0]} {end[1]}, OUT {'not made' if end[2] is None else f'of {len(end[2])} bytes'}"
         for number, end in zip(numbers, ends)
@@ -135,7 +140,7 @@ def check(library, words, ticks, workers):
 
 
 def main():
-    valgrind.make_program()
+    program = valgrind.program_itself()
     total = 0
     with tempfile.TemporaryDirectory() as folder, ThreadPoolExecutor(max_workers=4) as workers:
         source, library = os.path.join(folder, "refuse.c"), os.path.join(folder, "refuse.so")
@@ -143,7 +148,7 @@ def main():
             file.write(LIBRARY)
         subprocess.run(["cc", "-O2", "-w", "-shared", "-fPIC", "-o", library, source], check=True)
         for words, ticks in commands(folder):
-            total += check(library, words, ticks, workers)
+            total += check((program, library), words, ticks, workers)
     return 1 if total else 0
 
 

@@ -12,7 +12,7 @@ is due is worked out here, from the times and ends that `check` tells of the par
 are shown, that the second begins with a mode change, and how far the last set lies before the cut. `Schedule` alone is taken from `splice`. Where it is
 done, `dump` of the result has to be that of the first part before the cut and that of the second part behind it, at each set's time, a tick before and
 behind it, and where pages are timed out; and `check` has to end with `breach none`. Some results are spliced again. Of each first and second stream a
-lossy one, one with a wrong sync byte, and one that is entered late are tried too. Where `dvbsub_tools` has no `splice`, nothing is run, and that is said.
+lossy one, one with a wrong sync byte, and one that is entered late are tried too. A program that ends in a way that its inputs do not allow ends this with status 1.
 """
 
 import os
@@ -35,6 +35,17 @@ def run(program, *words):
     """The line that the program prints."""
     done = subprocess.run([program, *(str(word) for word in words)], stdout=subprocess.PIPE, stderr=subprocess.DEVNULL, check=False)
     return done.stdout.decode().strip()
+
+
+def told_by(out, program, *words, may=("done",)):
+    """What a program says, and the lines that it writes to OUT, whose name is put behind the words. It may say what begins with one of these."""
+    if os.path.exists(out):
+        os.remove(out)
+    note = run(program, *words, out)
+    if not note.startswith(may):
+        sys.exit(f"{' '.join(str(word) for word in words)}: {note}")
+    with open(out, encoding="utf-8") as lines:
+        return note, lines.read().splitlines()
 
 
 # ---- streams
@@ -82,10 +93,9 @@ class Stream:
     def sets(self, anchor, folder):
         """The time and the end of each set, lifted from an anchor."""
         if anchor not in self.known:
-            told = os.path.join(folder, "sets.txt")
-            run(PROGRAM, "check", self.profile, anchor, PID, PAGE, self.path, told)
-            with open(told, encoding="utf-8") as lines:
-                rows = [line.split() for line in lines]
+            may = ("done", "stream ") if self.unsynced else ("done",)
+            _, told = told_by(os.path.join(folder, "sets.txt"), PROGRAM, "check", self.profile, anchor, PID, PAGE, self.path, may=may)
+            rows = [line.split() for line in told]
             self.known[anchor] = [(int(row[1]), row[2]) for row in rows if row[0] == "set"]
         return self.known[anchor]
 
@@ -167,9 +177,21 @@ def compiled(name, profile, script, font, folder):
     with open(script, encoding="utf-8") as rows:
         words = rows.readline().strip().split(",")
     path = os.path.join(folder, re.sub(r"\W", "_", f"{name}_{profile}") + ".ts")
-    if words[0] != "origin" or run(PROGRAM, "compile", profile, PID, PAGE, script, font, path) != "done":
+    if words[0] != "origin":
         return []
-    return [Stream(name, profile, int(words[1]), path)]
+    note = run(PROGRAM, "compile", profile, PID, PAGE, script, font, path)
+    if not note.startswith(("done", "font ", "script ", "plan ", "schedule ", "long ")):
+        sys.exit(f"compile {profile} {script}: {note}")
+    return [Stream(name, profile, int(words[1]), path)] if note == "done" else []
+
+
+def example_stream(folder):
+    """The stream of the script of examples/, which is taken."""
+    examples = os.path.join(TOP, "examples")
+    found = compiled("subtitle", "sd", os.path.join(examples, "subtitle.csv"), os.path.join(examples, "television.bdf"), folder)
+    if not found:
+        sys.exit("examples/subtitle.csv is refused")
+    return found[0]
 
 
 def made_streams(folder, rng):
@@ -202,11 +224,9 @@ def given_streams(given, folder):
                 if found:
                     break
         elif os.path.exists(at("stream.ts")) and os.path.getsize(at("stream.ts")) % 188 == 0:
-            told = os.path.join(folder, "list.txt")
-            note = run(PROGRAM, "list", PID, at("stream.ts"), told)
-            with open(told, encoding="utf-8") as lines:
-                lossy = any(re.match(r"gap|error|short|long|pes \d+ (?!Other)", line) for line in lines)
-            streams.append(Stream(name, "sd", 0, at("stream.ts"), lossy=lossy, unsynced=note.startswith("stream")))
+            note, lines = told_by(os.path.join(folder, "list.txt"), PROGRAM, "list", PID, at("stream.ts"), may=("done", "stream "))
+            lossy = any(re.match(r"gap|error|short|long|pes \d+ (?!Other)", line) for line in lines)
+            streams.append(Stream(name, "sd", 0, at("stream.ts"), lossy=lossy, unsynced=note.startswith("stream ")))
     return streams
 
 
@@ -214,14 +234,15 @@ def foreign_stream(folder):
     """A stream that ffmpeg coded of a compiled one, or none."""
     if not shutil.which("ffmpeg"):
         return []
-    source, path = os.path.join(folder, "source.ts"), os.path.join(folder, "ffmpeg.ts")
-    run(PROGRAM, "compile", "sd", PID, PAGE, os.path.join(TOP, "examples", "subtitle.csv"), os.path.join(TOP, "examples", "television.bdf"), source)
+    source, path = example_stream(folder).path, os.path.join(folder, "ffmpeg.ts")
     tables = os.path.join(folder, "tables.ts")
-    run(TOOLS, "mux", 1, 100, PID, PAGE, "eng", 2, 101, 257, 1, "eng", source, "/dev/null", tables)
+    note = run(TOOLS, "mux", 1, 100, PID, PAGE, "eng", 2, 101, 257, 1, "eng", source, "/dev/null", tables)
+    if note != "done":
+        sys.exit(f"mux: {note}")
     run("ffmpeg", "-v", "error", "-y", "-copyts", "-i", tables, "-map", "0:p:1", "-c:s", "dvbsub", "-streamid", f"0:{PID}", "-muxdelay", 0,
         "-muxpreload", 0, "-f", "mpegts", path)
     if not os.path.exists(path) or not os.path.getsize(path):
-        return []
+        sys.exit("ffmpeg wrote no stream")
     return [Stream("ffmpeg", "sd", 0, path)]
 
 
@@ -288,10 +309,7 @@ def compared(first, second, cut, result, folder):
     faults = [f"tick {tick}" for tick, one, other in zip(ticks, got, wanted) if one != other]
     if len(got) != len(ticks) or len(wanted) != len(ticks):
         faults.append(f"{len(got)} and {len(wanted)} pictures for {len(ticks)} ticks: {got[:1]} {wanted[:1]}")
-    told = os.path.join(folder, "check.txt")
-    run(PROGRAM, "check", first.profile, first.origin, PID, PAGE, result.path, told)
-    with open(told, encoding="utf-8") as lines:
-        rows = lines.read().splitlines()
+    _, rows = told_by(os.path.join(folder, "check.txt"), PROGRAM, "check", first.profile, first.origin, PID, PAGE, result.path)
     if not rows or rows[-1] != "breach none":
         faults.append(f"check: {rows[-1:]}")
     told_times = [int(row.split()[1]) for row in rows if row.startswith("set ")]
@@ -324,6 +342,8 @@ class Tally:
 
 def spliced(first, second, cut, tally, folder, path):
     """Splices, and gives the result, or none."""
+    if os.path.exists(path):
+        os.remove(path)
     note = run(TOOLS, "splice", first.profile, PID, PAGE, first.origin, cut, first.path, second.path, path)
     tally.add(note)
     wanted = due(first, second, cut, folder)
@@ -375,20 +395,10 @@ def all_of(streams, folder, rng, tally):
                     spliced(first, second, cut, tally, folder, os.path.join(folder, "result.ts"))
 
 
-def has_tool():
-    """Whether dvbsub_tools has the word `splice`: then it misses the files of right words, and else it says `usage`."""
-    return run(TOOLS, "splice", "sd", PID, PAGE, 0, 90000, "no/one.ts", "no/two.ts", "no/out.ts") != "usage"
-
-
 def main(words):
-    if not has_tool():
-        print("not run: dvbsub_tools has no `splice`")
-        return 0
     rng, tally = random.Random(20), Tally()
     with tempfile.TemporaryDirectory() as folder:
-        examples = os.path.join(TOP, "examples")
-        streams = compiled("subtitle", "sd", os.path.join(examples, "subtitle.csv"), os.path.join(examples, "television.bdf"), folder)
-        streams += made_streams(folder, rng)
+        streams = [example_stream(folder), *made_streams(folder, rng)]
         if words:
             streams += given_streams(words[0], folder)
         theirs = foreign_stream(folder)

@@ -16,10 +16,9 @@ import sys
 import tempfile
 from concurrent.futures import ThreadPoolExecutor
 
-HERE = os.path.dirname(os.path.dirname(os.path.abspath(__file__)))
+import made_programs
 
-# The program itself, and not the script that makes it: valgrind would look at the shell.
-PROGRAM = os.environ.get("DVBSUB", os.path.join(HERE, "crates", "dvbsub", "out", "dvbsub"))
+HERE = os.path.dirname(os.path.dirname(os.path.abspath(__file__)))
 VALGRIND = ["valgrind", "--quiet", "--error-exitcode=99", "--leak-check=full", "--errors-for-leak-kinds=definite,possible"]
 FOUND = 99
 
@@ -148,7 +147,7 @@ def sink_cases():
     yield "no command", ["gone"], [], [], 2, "usage"
 
 
-def run(folder, number, case):
+def run(program, folder, number, case):
     """What is wrong with a case; nothing where it passes."""
     name, words, inputs, ticks, code, line, out = (*case, None)[:7]
     base = os.path.join(folder, str(number))
@@ -164,7 +163,7 @@ def run(folder, number, case):
             with open(path, "wb") as file:
                 file.write(content)
         names.append(path)
-    command = [PROGRAM, *words, *names] + ([out or os.path.join(base, "out")] if inputs else []) + ticks
+    command = [program, *words, *names] + ([out or os.path.join(base, "out")] if inputs else []) + ticks
     try:
         done = subprocess.run(VALGRIND + command, stdout=subprocess.PIPE, stderr=subprocess.PIPE, timeout=SECONDS, check=False)
     except subprocess.TimeoutExpired:
@@ -181,21 +180,20 @@ def run(folder, number, case):
     return None
 
 
-def make_program():
-    """Makes the program, where it is that of the repository."""
-    if not os.environ.get("DVBSUB"):
-        subprocess.run([os.path.join(HERE, "dvbsub")], stdout=subprocess.DEVNULL, stderr=subprocess.DEVNULL, check=False)
+def program_itself():
+    """The program itself, and not the script that makes it: valgrind would look at the shell."""
+    return os.environ.get("DVBSUB") or made_programs.path_of("dvbsub")
 
 
 def main(words):
     step = 1 if "--all" in words else 23
     jobs = int(words[words.index("--jobs") + 1]) if "--jobs" in words else 4
-    make_program()
+    program = program_itself()
     cases = [case for name, stream in hostile_streams(step) for case in stream_cases(name, stream)]
     cases += list(script_cases(step)) + list(sink_cases())
     done = bad = 0
     with tempfile.TemporaryDirectory() as folder, ThreadPoolExecutor(max_workers=jobs) as workers:
-        for result in workers.map(lambda pair: run(folder, *pair), enumerate(cases)):
+        for result in workers.map(lambda pair: run(program, folder, *pair), enumerate(cases)):
             done += 1
             bad += result is not None
             if result:

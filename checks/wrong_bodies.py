@@ -83,7 +83,7 @@ def main():
     faults += not_told_once(edits, crates)
     (TOP / "docs" / "WRONG_BODIES.md").write_text("\n".join(text))
     print("\n".join(faults + [f"{len(edits)} edits, {len(faults)} faults"]))
-    return 1 if faults else 0
+    return 1 if faults or not edits else 0
 
 
 if __name__ == "__main__":
