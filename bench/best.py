@@ -1,10 +1,12 @@
-"""Runs a program several times and prints its own processor seconds, all of its processor seconds, its seconds by the clock, each the best, and its most memory.
+"""Runs a program several times and prints four numbers: how many of its least processor seconds are its own, its least processor seconds, its
+least seconds by the clock, and the most memory that it had, in kilobytes.
 
     python3 bench/best.py ROUNDS PROGRAM WORD..
 
 Standard output of the program is dropped. Where the system allows it the program runs before others (`chrt -f 1`), so that a
 busy machine disturbs it less. What of its processor time is its own and what the system's, Linux tells by ticks, of which a short run has
-few: the least of 15 runs came out at half of what it is. So its part is taken over all runs.
+few: the least of 15 runs came out at half of what it is. So the part that is its own is taken over all runs, and the first number is that
+part of the second one.
 """
 import os
 import sys
@@ -40,8 +42,9 @@ def run(words):
 def main():
     runs = [run(sys.argv[2:]) for _ in range(int(sys.argv[1]))]
     user, processor, clock, memory = zip(*runs)
-    own = min(processor) * sum(user) / sum(processor)
-    print(f"{own:.4f} {min(processor):.4f} {min(clock):.4f} {max(memory)}")
+    # A run may be shorter than what is counted.
+    own_part = sum(user) / sum(processor) if sum(processor) else 0
+    print(f"{min(processor) * own_part:.4f} {min(processor):.4f} {min(clock):.4f} {max(memory)}")
 
 
 main()

@@ -1,11 +1,14 @@
 #!/usr/bin/env bash
 # Compiles an hour of cues of two lines, one every four seconds, a script at the limits of a script (512 epochs, 4,096 cues,
 # 8,192 colours, ten hours, a refresh each second), and one with as many cues and colours in one epoch, and copies what was
-# written by `cp`: sets and megabytes a second, the seconds that were its own and not the system's, and the most memory.
+# written by `cp`: seconds, megabytes and sets a second by the clock, the seconds of the processor that were its own and not the
+# system's, and the most memory, of one run each.
 set -e
 cd "$(dirname "${BASH_SOURCE[0]}")/.."
 mkdir -p bench/out
-./dvbsub >/dev/null 2>&1 || true
+# shellcheck source=bench/common.sh
+. bench/common.sh
+made dvbsub
 measure() {
     local name=$1 sets=$2
     /usr/bin/time -f '%e %U %M' -o bench/out/time.txt "${@:3}" >/dev/null

@@ -5,8 +5,9 @@
 set -e
 cd "$(dirname "${BASH_SOURCE[0]}")/.."
 mkdir -p bench/out
-./dvbsub >/dev/null 2>&1 || true
-./dvbsub_tools >/dev/null 2>&1 || true
+# shellcheck source=bench/common.sh
+. bench/common.sh
+made dvbsub dvbsub_tools
 program=./crates/dvbsub/out/dvbsub
 tools=./crates/dvbsub_tools/out/dvbsub_tools
 stream=bench/out/clocked.ts

@@ -1,11 +1,13 @@
 #!/usr/bin/env bash
-# Lists a stream of which one packet in eight is of the PID, and reads the same file by `cat`: the best of 30 runs of each, and
-# the speed of `list` beside that of `cat`, by processor time. Each unit has 16 packets and a page, a region and 16 other
-# segments. The first argument is the size of the stream in megabytes, 256 where there is none.
+# Lists a stream of which one packet in eight is of the PID, and reads the same file by `cat`: the best of 30 runs of each by
+# processor time and by the clock, megabytes a second by the clock, and the speed of `list` beside that of `cat`, by processor
+# time; then how the list begins. Each unit has 16 packets and a page, a region and 16 other segments. The first argument is the size of the stream in megabytes, 256 where there is none.
 set -e
 cd "$(dirname "${BASH_SOURCE[0]}")/.."
 mkdir -p bench/out
-./dvbsub >/dev/null 2>&1 || true
+# shellcheck source=bench/common.sh
+. bench/common.sh
+made dvbsub
 python3 - "${1:-256}" bench/out/stream.ts <<'PYTHON'
 import struct, sys
 size, path = int(sys.argv[1]) * 1000000, sys.argv[2]

@@ -1,11 +1,14 @@
 #!/usr/bin/env bash
 # Joins two streams by `mux` and takes one out again by `take`, and reads the same files by `cat`: the best of 15 runs of each, by
-# processor time. The first argument is the size of each stream in megabytes, 100 where there is none. Goals: `mux` at half of `cat`
-# of what it writes or better, `take` at 0.7 of `cat` of what it reads or better.
+# processor time and by the clock, and the most memory. The first argument is the size of each stream in megabytes, 100 where there
+# is none. Goals, by processor time: `mux` at half of `cat` of what it writes or better, `take` at 0.7 of `cat` of what it reads or
+# better.
 set -e
 cd "$(dirname "${BASH_SOURCE[0]}")/.."
 mkdir -p bench/out
-./dvbsub_tools >/dev/null 2>&1 || true
+# shellcheck source=bench/common.sh
+. bench/common.sh
+made dvbsub_tools
 python3 - "${1:-100}" bench/out/eng.ts bench/out/fre.ts <<'PYTHON'
 import sys
 count = int(sys.argv[1]) * 1000000 // 188

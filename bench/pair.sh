@@ -1,12 +1,13 @@
 #!/usr/bin/env bash
-# Sends an hour of cues of two lines, one every four seconds, twice on one PID by `pair`, and compiles it once by `compile`: sets and
-# megabytes a second, the seconds that were its own and not the system's, and the most memory. `pair` reads, plans and codes two scripts:
-# goal: no more than 2.5 times the time of `compile`. The texts are pictures here, as `pair` has no font.
+# Sends an hour of cues of two lines, one every four seconds, twice on one PID by `pair`, and compiles it once by `compile`: bytes written,
+# the best of 5 runs by processor time and by the clock, megabytes a second by the clock, and the most memory. `pair` reads, plans and
+# codes two scripts: goal: no more than 2.5 times the processor time of `compile`. The texts are pictures here, as `pair` has no font.
 set -e
 cd "$(dirname "${BASH_SOURCE[0]}")/.."
 mkdir -p bench/out
-./dvbsub >/dev/null 2>&1 || true
-./dvbsub_tools >/dev/null 2>&1 || true
+# shellcheck source=bench/common.sh
+. bench/common.sh
+made dvbsub dvbsub_tools
 python3 bench/scripts.py hour >bench/out/script.csv
 python3 - bench/out/script.csv <<'PYTHON'
 import sys

@@ -1,13 +1,14 @@
 #!/usr/bin/env bash
 # Reads compiled streams by `list`, `check`, `dump` (1,000 ticks, one band), `pictures` (of all sets, one band), `pids`, `faults` and `levels`,
 # beside `cat` of the same file: an hour of cues of two lines, one every four seconds, and a script at its limits. Then `list` and `check` of a PID
-# that the hour's stream does not have. Each line has the bytes of the stream, the best processor time of the program of three runs, and the greatest memory
-# of these.
+# that the hour's stream does not have. Each line has the bytes of the stream, the best processor time of the program of three runs, megabytes a
+# second by that, and the greatest memory of these. Behind the lines of a stream come the last two lines of `check`, and how many sets it told.
 set -e
 cd "$(dirname "${BASH_SOURCE[0]}")/.."
 mkdir -p bench/out
-./dvbsub >/dev/null 2>&1 || true
-./dvbsub_tools >/dev/null 2>&1 || true
+# shellcheck source=bench/common.sh
+. bench/common.sh
+made dvbsub dvbsub_tools
 program=crates/dvbsub/out/dvbsub
 tools=crates/dvbsub_tools/out/dvbsub_tools
 measure() {

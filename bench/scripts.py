@@ -1,4 +1,4 @@
-"""Writes the scripts of bench/compile.sh.
+"""Writes the scripts that benchmarks compile.
 
     python3 bench/scripts.py hour   > hour.csv      # an hour of cues of two lines, one every four seconds
     python3 bench/scripts.py limits > limits.csv    # 512 epochs, 4,096 cues and 8,192 colours over ten hours

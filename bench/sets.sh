@@ -1,6 +1,6 @@
 #!/usr/bin/env bash
-# Builds the proved program bench_libraries and prints how many display sets a second it reads, takes into a page memory, and takes and
-# draws, row by row of the whole display: sets of text of 720 by 80 pixels in 8, 4 and 2 bits, and of 1,920 by 160 pixels in 8
+# Builds the proved program bench_libraries and prints how many display sets a second it reads, reads with their runs, takes into a page
+# memory, and takes and draws, row by row of the whole display: sets of text of 720 by 80 pixels in 8, 4 and 2 bits, and of 1,920 by 160 pixels in 8
 # bits. Each line has the best of 20 rounds. The one word is how many sets a round has (500 where it is left out). Where
 # libavcodec's headers are installed, its decoder is given the same sets, and what is taken is compared with what it decodes.
 set -e
@@ -11,7 +11,7 @@ count=${1:-500} sets=bench/out/sets.bin lines=bench/out/lines.txt decoded=bench/
 # shellcheck source=bench/common.sh
 . bench/common.sh
 crates/bench_libraries/out/bench_libraries sets 1 $sets >/dev/null 2>&1
-for round in 1 2 3 4 5 6 7 8 9 10 11 12 13 14 15 16 17 18 19 20; do
+for _ in {1..20}; do
     $first crates/bench_libraries/out/bench_libraries sets "$count" 2>&1 >/dev/null
 done | awk '
     /:$/ { picture = $0; next }

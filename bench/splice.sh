@@ -1,12 +1,14 @@
 #!/usr/bin/env bash
 # Joins a stream of half an hour of cues of two lines, one every four seconds, with itself by `splice`, beside `check` of the same stream,
-# and `cat` of what was written: bytes written, the best of 5 runs by processor time and by the clock, and the most memory. `splice` reads
-# two streams as `check` does one, and writes both: goal: 1.5 times the time of `check` of both.
+# and `cat` of what was written: bytes (of the stream, and written), the best of 5 runs by processor time and by the clock, megabytes a
+# second by the clock, and the most memory. `splice` reads two streams as `check` does one, and writes both: goal: 1.5 times the
+# processor time of `check` of both.
 set -e
 cd "$(dirname "${BASH_SOURCE[0]}")/.."
 mkdir -p bench/out
-./dvbsub >/dev/null 2>&1 || true
-./dvbsub_tools >/dev/null 2>&1 || true
+# shellcheck source=bench/common.sh
+. bench/common.sh
+made dvbsub dvbsub_tools
 # Five records, and 450 cues whose texts have two lines. A stream of an hour is longer than `splice` takes.
 python3 bench/scripts.py hour | awk 'NR <= 905' >bench/out/script.csv
 program=./crates/dvbsub/out/dvbsub

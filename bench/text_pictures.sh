@@ -1,20 +1,20 @@
 #!/usr/bin/env bash
 # Pictures of 720 by 80 pixels of smoothed text at each depth: 4,096 sets that show 8 pictures in turn, 512 sets that each
 # show another picture, in digits and in runs, and 8 pictures in which each pixel differs from the one before it. Prints the sets a second of
-# `compile`, by its own time and by the clock (the best of 15 runs), its memory, and the seconds that `cp` takes for the bytes that
-# it wrote; then the pixels a second that are coded anew (`write_fields`) and read (`check_block` and `next_run`) of the 8 text
-# pictures. Where libavcodec's headers are installed, its encoder is given the same pictures, and ours is compared with it.
+# `compile`, by its own time and by the clock (the best of 15 runs), its memory, and what part of that clock `cp` takes for the bytes
+# that it wrote; and the pixels a second that are coded anew (`write_fields`) and read (`check_block` and `next_run`) of 8 pictures, of
+# text and of pixels that differ. Where libavcodec's headers are installed, its encoder is given the same pictures, and ours is compared with it.
 set -e
 cd "$(dirname "${BASH_SOURCE[0]}")/.."
 mkdir -p bench/out
 script=bench/out/script.csv stream=bench/out/stream.ts font=examples/subtitle.bdf
 pixels=$((720 * 80))
-./dvbsub >/dev/null 2>&1 || true
 # shellcheck source=bench/common.sh
 . bench/common.sh
+made dvbsub
 compile() {
-    local name=$1 sets=$2 user processor clock memory copied encoded=$3
-    read -r user processor clock memory < <(python3 bench/best.py 15 ./crates/dvbsub/out/dvbsub compile hd 256 1 $script none $stream)
+    local name=$1 sets=$2 user clock memory copied encoded=$3
+    read -r user _ clock memory < <(python3 bench/best.py 15 ./crates/dvbsub/out/dvbsub compile hd 256 1 $script none $stream)
     read -r _ _ copied _ < <(python3 bench/best.py 15 cp $stream bench/out/copy.ts)
     rm bench/out/copy.ts
     echo "$name $sets $user $clock $memory $copied $encoded" | awk '{
