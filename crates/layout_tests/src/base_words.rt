@@ -170,6 +170,7 @@ fn files_that_are_not_there(rt: HostRuntime) {
     same(&rt, closed.write(b"xyz"), Err(WriteFailed));
 }
 
+/// That the call ends is all that is tested: this gate does nothing, and gives nothing to compare.
 #[test]
 fn a_gate_that_does_nothing() {
     NoGate.enter(1);

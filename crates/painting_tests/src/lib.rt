@@ -5,10 +5,12 @@
 
 // A comparison as a call.
 #[cfg(test)]
+mod same;
+
+// Strings in rows, strings in regions of a store, and blocks in such regions.
+#[cfg(test)]
 mod painted_blocks;
 #[cfg(test)]
 mod painted_rows;
-#[cfg(test)]
-mod same;
 #[cfg(test)]
 mod stored_strings;
