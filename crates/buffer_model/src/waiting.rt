@@ -4,7 +4,7 @@ ghost use Rattle.buffer_model.specs.Meters.{held as held_bytes, held_of};
 
 use sub_base::LARGEST_BUFFER;
 
-/// More sets than can wait in the coded data buffer of any profile with a step: each has at least
+/// As many sets as can wait in the coded data buffer of any profile at the most: each has at least
 /// one of its bytes. A meter keeps room for so many, 16 bytes for each.
 pub const MOST_WAITING: usize = LARGEST_BUFFER as usize;
 

@@ -50,8 +50,9 @@ fn word_place(body: &[u8], depth: Depth) -> usize
     place
 }
 
-/// How many bits from a place on are whole codes that a word there tells; at the most 49 where it
-/// does not tell the next one.
+/// How many bits from a place on are whole codes that a word there tells.
+// At the most 49 where it does not tell the next one, which is what the walk takes for its end: a
+// code that no word tells is stepped over by itself.
 #[inline(always)]
 fn passed_in_word(body: &[u8], depth: Depth, place: usize) -> usize
     requires short { length body.now ≤ 65535 }

@@ -70,6 +70,7 @@ display_or_default (Some display) = display
 abbrev pub display_in_force : List Content → Display
 display_in_force segments = display_or_default (last_display segments)
 
+-- a display with more columns or rows than the profile
 abbrev pub display_fault : Profile → Display → Option SetFault
 display_fault profile display =
     if nat_lt profile.width display.width || nat_lt profile.height display.height
@@ -82,6 +83,7 @@ abbrev pub unknown_region : List Content → PageEntry → Option SetFault
 unknown_region segments entry =
     if is_none (last_region entry.region segments) then Some (fault.NoSuchRegion entry.region) else None
 
+-- the first region that the page shows and none of the segments defines
 abbrev pub page_fault : List Content → Page → Option SetFault
 page_fault segments page = first_given (unknown_region segments) page.entries
 
@@ -111,6 +113,7 @@ region_too_large profile taken region =
 
 -- ---- nodes
 
+-- a composition with more nodes than the profile
 abbrev pub composition_fault : Profile → Taken → Page → Option SetFault
 composition_fault profile taken page =
     if nat_lt profile.nodes (nodes_of taken page) then Some (fault.CompositionFull (nodes_of taken page)) else None
@@ -173,9 +176,11 @@ first_fault_by test older set =
 abbrev pub region_changed : List Content → Content → Option SetFault
 region_changed earlier content = changed_region earlier content.value (region_of content)
 
+-- a region segment behind earlier segments that needs more bytes of pixels than are free
 abbrev pub pixels_full : Profile → List Content → Content → Option SetFault
 pixels_full profile earlier content = option_and_then (region_too_large profile (taken_of earlier)) (region_of content)
 
+-- an object behind earlier segments whose pixel code strings are deeper than a region that it is painted in
 abbrev pub object_too_deep : List Content → Content → Option SetFault
 object_too_deep earlier content = option_and_then (fault_in_regions (taken_of earlier) content) (object_of content)
 

@@ -65,6 +65,7 @@ pub data Delivery (S : Type 0) : Type 0 where
 abbrev pub first_fault_in : List Frame → Option SetFault
 first_fault_in frames = option_map Segment (first_given fault_of frames)
 
+-- the segments up to the first that has no room have more bytes than the coded data buffer
 abbrev pub excess_in : ℕ → List Frame → Option SetFault
 excess_in coded front = if nat_lt coded (bytes_in front) then Some (SetTooLong (bytes_in front)) else None
 

@@ -13,6 +13,7 @@ use Rattle.decoder_model.specs.declared.set_end.SetEnd.TheVariants.{Shown, Waiti
 use Rattle.decoder_model.specs.declared.set_fault.SetFault.{SetFault}
 use Rattle.decoder_model.specs.declared.set_fault.SetFault.TheVariants.{NoPage}
 
+-- a set without a fault is shown, and one with a fault is broken by it
 abbrev pub shown_unless : Option SetFault → SetEnd
 shown_unless None = Shown
 shown_unless (Some fault) = Broken fault
@@ -23,6 +24,7 @@ verdict_in_epoch profile page None = Waiting
 verdict_in_epoch profile page (Some []) = Waiting
 verdict_in_epoch profile page (Some (set ∷ before)) = shown_unless (epoch_fault profile before set page)
 
+-- a set by its page: without one it is broken
 abbrev pub verdict_with_page : Profile → List (List Content) → List Content → Option Page → SetEnd
 verdict_with_page profile sets set None = Broken NoPage
 verdict_with_page profile sets set (Some page) = verdict_in_epoch profile page (epoch_of (set ∷ sets))
@@ -32,6 +34,7 @@ abbrev pub verdict_on_segments : Profile → List (List Content) → List Conten
 verdict_on_segments profile sets set (Some fault) = Broken fault
 verdict_on_segments profile sets set None = verdict_with_page profile sets set (page_in_set set)
 
+-- the verdict on a kept set by what was read of its segments
 abbrev pub verdict_on_kept : Profile → List (List Content) → List Reading → SetEnd
 verdict_on_kept profile sets readings = verdict_on_segments profile sets (contents_in readings) (segment_fault readings)
 

@@ -2,7 +2,8 @@ use stream_syntax::SegmentFault;
 use thiserror::Error;
 
 /// Why a display set is broken (EN 300 743, clauses 5.2 and 7.2). The kinds stand in the order of
-/// the tests, but for the last, which a set has before it is whole.
+/// the tests, with two exceptions: pixel code strings that are too deep are found last, as the
+/// objects are painted, and the last kind is found before a set is whole.
 #[derive(Clone, Copy, Debug, PartialEq, Eq, Error)]
 pub enum SetFault {
     /// A segment is refused, or the pixel code strings of an object are deeper than a region that
@@ -31,7 +32,8 @@ pub enum SetFault {
     /// The page composition has more nodes than the profile.
     #[error("the composition has {size} nodes, more than the profile's")]
     CompositionFull { size: u32 },
-    /// The segments have this many bytes, more than the coded data buffer.
-    #[error("the segments of the set have {size} bytes, more than the profile's")]
+    /// The segments up to the first that has no room have this many bytes with it, more than the
+    /// coded data buffer.
+    #[error("the segments up to the first without room have {size} bytes, more than the profile's")]
     SetTooLong { size: u64 },
 }

@@ -27,12 +27,19 @@ use std::marker::Model;
 use stream_syntax::PageEntry;
 use sub_base::NoMemory;
 
-// The lists of the pool. That of the listings of a region is behind these, by its id.
+// The lists of the pool: the entries of the page, the regions, the CLUTs, and the table entries
+// that are set. The listings of a region are behind these, by its id.
+const ENTRIES: u32 = 0;
+
 const REGIONS: u32 = 1;
+
+const CLUTS: u32 = 2;
 
 const COLOURS: u32 = 3;
 
-const LISTS: u32 = 260;
+const FIRST_LISTINGS: u32 = 4;
+
+const LISTS: u32 = FIRST_LISTINGS + 256;
 
 /// The page, the regions, the CLUTs, and what is set in them.
 #[derive(Drop)]

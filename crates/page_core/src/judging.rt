@@ -1,5 +1,5 @@
-//! The tests of a set by its epoch, in the order of the standard (EN 300 743, clauses 5.1, 5.2 and
-//! 7.2).
+//! The tests of a set by its epoch (EN 300 743, clauses 5.1, 5.2 and 7.2), in the order of
+//! `epoch_fault`: the standard names what is wrong, and no order.
 
 ghost use Rattle.std.specs.Prelude.{◌-◌, ◌≡◌, ◌++◌, List, None, option_and_then, option_map, reverse, slice_index_or, false, ◌<◌};
 ghost use Rattle.std.specs.Option.{is_none};

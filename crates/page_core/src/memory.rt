@@ -1,6 +1,6 @@
 //! The page memory of a receiver, and what becomes of the sets that it is handed.
 
-ghost use Rattle.std.specs.Prelude.{unwrap_or, ◌≡◌, ◌<◌, ◌^◌, ◌∷◌, [], List, ℕ, true, Some, None, IfErr, IfOk, IfSome, OnErr, option_and_then, option_map};
+ghost use Rattle.std.specs.Prelude.{unwrap_or, ◌≡◌, ◌≢◌, ◌<◌, ◌^◌, ◌∷◌, [], List, ℕ, true, Some, None, IfErr, IfOk, IfSome, OnErr, option_and_then, option_map};
 ghost use Rattle.decoder_model.specs.Faults.{display_fault as fault_of_display, display_or_default};
 ghost use Rattle.decoder_model.specs.Free.{free_nodes_after, free_pixels_after};
 ghost use Rattle.decoder_model.specs.Kept.{lifted_time};
@@ -124,7 +124,7 @@ impl Core {
         ensures answer { (past : List (Delivery Reading)) (size : ℕ) → IsMemoryAfter past self.old
             → Some result
             ≡ verdict_of self.old.profile self.old.anchor past (refused pts size fault) }
-        ensures known { result ≡ Shown → self.new.known ≡ true }
+        ensures not_shown { result ≢ Shown }
         ensures unchanged { (time : ℕ) → result ≡ NotLater time → self.new ≡ self.old }
         ensures broken { (why : WhyBroken) → result ≡ Broken why → IsForgotten self.new }
         ensures same { IsSameReceiver self.old self.new }

@@ -6,9 +6,9 @@ use Rattle.stream_syntax.specs.Units.{succession}
 use Rattle.section_reader.specs.Reading.{IsReadingOf, ReadsSectionsOn, SectionReading, Takes}
 use Rattle.section_reader.specs.Sections.{Ended, by_counter, counts, ended_with, following, grown, hand_behind, is_broken, last_counter, sections_at, started}
 use Rattle.section_reader.specs.Private.Following.{follows}
-use Rattle.section_reader.specs.Private.Kinds.{IsPayloadOf}
+use Rattle.ts_packets.specs.Kinds.{IsPayloadOf}
 use Rattle.section_reader.specs.Private.Steps.{Ends, StepsOn}
-use Rattle.section_reader.specs.declared.kind.Payload.{Payload}
+use Rattle.ts_packets.specs.declared.kind.Payload.{Payload}
 use Rattle.section_reader.proofs.FollowingLaws.{takes_both, takes_nothing}
 
 module _ {Taker Kept : Type 0} (stands : Taker → List (List ℕ) → Type 0) (kept : Taker → Kept) where

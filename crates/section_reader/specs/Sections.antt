@@ -76,6 +76,7 @@ started hand (pointer ∷ payload) =
       hand = (following (length payload) (drop pointer payload)).hand;
     }
 
+-- the sections that end with a payload: it has the start flag, or goes on with the section in hand
 abbrev pub with_payload : Option (List ℕ) → Bool → List ℕ → Ended
 with_payload hand start payload = if start then started hand payload else grown hand payload
 

@@ -4,12 +4,13 @@ ghost use Rattle.psi_tables.specs.Sections.{whole_section};
 ghost use Rattle.section_reader.specs.Sections.{LONGEST_SECTION};
 ghost use Rattle.section_reader.specs.Private.Following.{begins_section as begins};
 
-use crate::kind::{Kind, Payload, kind_of};
+use crate::kind::{Kind, kind_of};
 use crate::taker::SectionTaker;
 use byteorder::{BigEndian, ByteOrder};
 use std::alloc::Global;
 use std::marker::Model;
 use sub_base::NoMemory;
+use ts_packets::Payload;
 
 /// The bytes of the longest section, and of a payload.
 const ROOM: usize = 4_282;

@@ -35,11 +35,13 @@ abbrev pub GivesReading : {Seg Value Fault : Type 0} → (Seg → Value) → Res
 GivesReading view (Ok seg) read = read ≡ Ok (view seg)
 GivesReading view (Err fault) read = read ≡ Err fault
 
+-- the page state by its number, 0 to 2
 abbrev pub state_of : ℕ → State
 state_of zero = Normal
 state_of (suc zero) = Acquisition
 state_of (suc (suc n)) = ModeChange
 
+-- the page that a body spells
 abbrev pub page_in : List ℕ → Page
 page_in body =
     record {
@@ -49,18 +51,22 @@ page_in body =
       entries = page_entries (drop 2 body);
     }
 
+-- the page of a body, or the fault of its first test that fails
 abbrev pub page_at : List ℕ → Result Page SegmentFault
 page_at body = checked (page_tests body) (page_in body)
 
+-- the depth by its number, 1 to 3
 abbrev pub depth_of : ℕ → Depth
 depth_of zero = Two
 depth_of (suc zero) = Two
 depth_of (suc (suc zero)) = Four
 depth_of (suc (suc (suc n))) = Eight
 
+-- the depth by its number, or that there is none
 abbrev pub depth_at : ℕ → Result Depth SegmentFault
 depth_at number = checked (depth_tests number) (depth_of number)
 
+-- the fields of a region before its objects, with that depth
 abbrev pub region_head_in : List ℕ → Depth → RegionHead
 region_head_in body depth =
     record {
@@ -76,6 +82,7 @@ region_head_in body depth =
       code2 = byte_at 9 body / 4 % 4;
     }
 
+-- the same, or the fault of the first test that fails
 abbrev pub region_head_at : List ℕ → Result RegionHead SegmentFault
 region_head_at body = do
   shape ← tested
@@ -84,26 +91,32 @@ region_head_at body = do
   depth ← depth_at (byte_at 6 body / 4 % 8)
   Ok (region_head_in body depth)
 
+-- the region that a body spells
 abbrev pub region_in : List ℕ → Region
 region_in body =
     record { head = region_head_in body (depth_of (byte_at 6 body / 4 % 8)); listings = region_listings (drop 10 body) }
 
+-- the region of a body, or the fault of its first test that fails
 unfoldable pub region_at : List ℕ → Result Region SegmentFault
 region_at body = do
   head ← region_head_at body
   listings ← tested (listing_tests 16 (drop 10 body))
   Ok (record { head = head; listings = region_listings (drop 10 body) })
 
+-- the CLUT that a body spells
 abbrev pub clut_in : List ℕ → Clut
 clut_in body = record { clut = byte_at 0 body; version = byte_at 1 body / 16; entries = clut_entries (drop 2 body) }
 
+-- the CLUT of a body, or the fault of its first test that fails
 abbrev pub clut_at : List ℕ → Result Clut SegmentFault
 clut_at body = checked (clut_tests body) (clut_in body)
 
+-- the window that a body spells
 abbrev pub window_in : List ℕ → Window
 window_in body =
     record { left = word_at 5 body; right = word_at 7 body; top = word_at 9 body; bottom = word_at 11 body }
 
+-- the display that a body spells
 abbrev pub display_in : List ℕ → Display
 display_in body =
     record {
@@ -113,9 +126,11 @@ display_in body =
       window = if has_window body then Some (window_in body) else None;
     }
 
+-- the display of a body, or the fault of its first test that fails
 abbrev pub display_at : List ℕ → Result Display SegmentFault
 display_at body = checked (display_tests body) (display_in body)
 
+-- the object that a body spells
 abbrev pub object_in : List ℕ → Object
 object_in body =
     record {
@@ -126,6 +141,7 @@ object_in body =
       bottom = bottom_in body;
     }
 
+-- the object of a body, or the fault of its first test that fails
 abbrev pub object_at : List ℕ → Result Object SegmentFault
 object_at body = checked (object_tests body) (object_in body)
 

@@ -17,7 +17,7 @@ pub(crate) const ENTRY: usize = 6;
 pub struct PageSeg<'a> {
     /// The seconds after which the page is no longer shown (page_time_out).
     pub time_out: u8,
-    /// The version, 0 to 15 (page_version_number). No reader here looks at it.
+    /// The version, 0 to 15 (page_version_number). The page memory does not look at it.
     pub version: u8,
     /// Whether a receiver can begin at the set (page_state).
     pub state: State,

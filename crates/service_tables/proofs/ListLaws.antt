@@ -1,10 +1,10 @@
 -- A list of programmes, each of which looks for its PMT.
-use Rattle.std.proofs.Common.{◌≡◌, ◌∙◌, Bool, true, false, ◌||◌, ℕ, suc, ◌+◌, ◌<◌, ◌≤◌, ◌⊎◌, List, [], ◌∷◌, ◌++◌, length, length-append, length-set, map, get_or, set, Option, inl, inr, refl, sym, ap, subst, arith}
+use Rattle.std.proofs.Common.{◌≡◌, ◌≢◌, ◌∙◌, Bool, true, false, not, ◌&&◌, ◌||◌, None, Some, is_some, ℕ, suc, ◌+◌, ◌<◌, ◌≤◌, ◌⊎◌, List, [], ◌∷◌, ◌++◌, length, length-append, length-set, map, get_or, set, Option, inl, inr, refl, sym, ap, subst, arith}
 use Rattle.std.proofs.lemmas.List.{get_or-set_other, get_or-set_same, get_or_append_left}
 use Rattle.std.proofs.Math.Seq.{get_or-append_seam, map-set_same}
 use Rattle.sub_base.specs.Lists.{first_given}
 use Rattle.section_reader.specs.Sections.{sections_of}
-use Rattle.service_tables.specs.Reading.{HasReadMap, HaveReadMaps, ProgrammeReading, entry_of, map_of, no_programme}
+use Rattle.service_tables.specs.Reading.{HasCome, HasReadMap, HaveReadMaps, ProgrammeReading, entry_of, map_of, no_programme}
 use Rattle.service_tables.specs.Tables.{ProgrammeMap, wanted_in, with_map}
 use Rattle.service_tables.specs.declared.first_section.Table.{Table}
 
@@ -112,6 +112,47 @@ one_more_same old new count packet fed came one are same below is none packets h
     neither false false none = (refl, refl)
     neither false true none = absurd cc
     neither true b none = absurd cc
+
+-- the PMT of one has come, if that is so
+abbrev pub AreCome : Bool → List ProgrammeReading → List ProgrammeReading → Type 0
+AreCome came old new = came ≡ true → HasCome old new
+
+pub one_more_come : (old new : List ProgrammeReading) (count : ℕ) (packet : List ℕ) (fed : ProgrammeReading)
+    (came one : Bool) → AreFed old new count packet → AreCome came old new → count < length new
+    → one ≡ (not (is_some (get_or new count no_programme).map.section) && is_some fed.map.section)
+    → AreCome (came || one) old (set new count fed)
+one_more_come old new count packet fed true one are before below is some =
+    let has = before refl in
+    let other : has.place ≢ count = λ at.
+    let here : get_or new has.place no_programme ≡ get_or old has.place no_programme =
+    are.left has.place (omega (arith, at)) in
+    found_or_not _ (ap (λ (p : ProgrammeReading). p.map.section) here ∙ has.missing) has.found in
+    record {
+      place = has.place;
+      there = has.there;
+      missing = has.missing;
+      found = ap (λ (p : ProgrammeReading). is_some p.map.section)
+          (get_or-set_other new count has.place fed no_programme other)
+          ∙ has.found;
+    }
+  where
+    found_or_not : (section : Option (List ℕ)) → section ≡ None → is_some section ≡ true → ⊥
+    found_or_not None none found = absurd cc
+    found_or_not (Some bytes) none found = absurd cc
+one_more_come old new count packet fed false one are before below is some =
+    let both = come _ _ (sym is ∙ some) in
+    record {
+      place = count;
+      there = omega (arith, below, are.same);
+      missing = ap (λ (p : ProgrammeReading). p.map.section) (sym (are.left count (omega arith))) ∙ both.0;
+      found = ap (λ (p : ProgrammeReading). is_some p.map.section) (get_or-set_same new count fed no_programme below)
+          ∙ both.1;
+    }
+  where
+    come : (before after : Option (List ℕ)) → (not (is_some before) && is_some after) ≡ true
+        → (before ≡ None) × (is_some after ≡ true)
+    come None after is_both = (refl, is_both)
+    come (Some bytes) after is_both = absurd cc
 
 -- ---- what they stand for
 

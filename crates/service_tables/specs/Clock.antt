@@ -16,5 +16,6 @@ clock_at programme = option_and_then clock_in programme.section
 abbrev pub clock_among : ℕ → List ProgrammeMap → Option ℕ
 clock_among pid programmes = option_and_then clock_at (find (lists pid) programmes)
 
+-- the PID of the clock of a PID, by the tables in these packets
 abbrev pub clock_pid : List (List ℕ) → ℕ → Option ℕ
 clock_pid packets pid = clock_among pid (programme_maps packets)

@@ -1,5 +1,6 @@
 -- What is kept of the programmes of a stream, and what that has to do with its packets.
-use Rattle.std.specs.Prelude.{◌≡◌, ℕ, ◌<◌, Bool, false, List, [], length, map, slice_index_or, Option, Some, None}
+use Rattle.std.specs.Prelude.{◌≡◌, ℕ, ◌<◌, Bool, true, false, List, [], length, map, slice_index_or, Option, Some, None}
+use Rattle.std.specs.Option.{is_some}
 use Rattle.psi_tables.specs.Loops.{PatEntry}
 use Rattle.section_reader.specs.Reading.{HasReadSections, SectionReading}
 use Rattle.service_tables.specs.First.{FirstFound, HasFirst}
@@ -54,6 +55,13 @@ abbrev pub HaveReadMaps : List ProgrammeReading → List (List ℕ) → Type 0
 HaveReadMaps programmes packets = (k : ℕ) → k < length programmes
     → HasReadMap (slice_index_or programmes k no_programme) packets
 
+-- the PMT of one of the programmes was not there before, and is now
+pub record HasCome (before now : List ProgrammeReading) : Type 0 where
+  pub place : ℕ
+  pub there : place < length before
+  pub missing : (slice_index_or before place no_programme).map.section ≡ None
+  pub found : is_some (slice_index_or now place no_programme).map.section ≡ true
+
 -- these programmes are those of the PAT, and their PMTs were looked for in the packets behind it
 pub record AreListed (pat : List ℕ) (behind : List (List ℕ)) (programmes : List ProgrammeReading) : Type 0 where
   pub listed : map entry_of programmes ≡ programmes_of (entries_in pat)
@@ -73,6 +81,7 @@ pub record IsBehindPat (read : ProgrammesRead) (pat : List ℕ) (packets : List 
   pub first : first_pat packets ≡ Some (pat, behind)
   pub listed : read.is_wanting ≡ false → AreListed pat behind read.programmes
 
+-- the tables were read in these packets, of which the section of a PAT is known or none has come
 abbrev pub ReadBy : Option (List ℕ) → ProgrammesRead → List (List ℕ) → Type 0
 ReadBy None read packets = IsBeforePat read packets
 ReadBy (Some pat) read packets = IsBehindPat read pat packets

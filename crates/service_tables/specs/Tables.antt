@@ -26,6 +26,7 @@ abbrev pub is_of : Table → SectionValue → Bool
 is_of table.Pat value = is_pat value
 is_of (table.Pmt number) value = is_map_of number value
 
+-- there is a value, and it passes a test
 abbrev pub passes : (SectionValue → Bool) → Option SectionValue → Bool
 passes test None = false
 passes test (Some value) = test value
@@ -79,9 +80,11 @@ first_pat packets = first_in (wanted_in table.Pat) 0 packets
 abbrev pub first_map : PatEntry → List (List ℕ) → Option (List ℕ)
 first_map entry packets = first_given (wanted_in (table.Pmt entry.number)) (sections_of entry.pid packets)
 
+-- an entry of the PAT with the first valid PMT in the packets behind it
 abbrev pub with_map : List (List ℕ) → PatEntry → ProgrammeMap
 with_map behind entry = record { number = entry.number; pid = entry.pid; section = first_map entry behind }
 
+-- the programmes of a PAT, each with its PMT; none where no PAT has come
 abbrev pub maps_behind : Option (Found (List ℕ)) → List ProgrammeMap
 maps_behind None = []
 maps_behind (Some pat) = map (with_map pat.1) (programmes_of (entries_in pat.0))

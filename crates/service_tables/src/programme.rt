@@ -28,7 +28,8 @@ impl Model for Programme {
 }
 
 impl Programme {
-    ghost use Rattle.std.specs.Prelude.{◌≡◌, ◌++◌, ◌∷◌, [], ℕ, IfOk, List, false};
+    ghost use Rattle.std.specs.Prelude.{◌≡◌, ◌&&◌, not, ◌++◌, ◌∷◌, [], ℕ, IfOk, List, false};
+    ghost use Rattle.std.specs.Option.{is_some};
     ghost use Rattle.psi_tables.specs.Loops.{streams_of};
     ghost use Rattle.psi_tables.specs.Walking.{entry_value};
     ghost use Rattle.service_tables.specs.Clock.{clock_at, lists};
@@ -60,6 +61,8 @@ impl Programme {
         ensures entry { entry_of self.new ≡ entry_of self.old }
         ensures read { (packets : List (List ℕ)) → HasReadMap self.old packets
             → HasReadMap self.new (packets ++ packet.now ∷ []) }
+        ensures came { result
+            ≡ (not (is_some self.old.map.section) && is_some self.new.map.section) }
         ensures same { result ≡ false → (packets : List (List ℕ)) → HasReadMap self.old packets
             → map_of self.new ≡ map_of self.old }
     {

@@ -1,8 +1,8 @@
-ghost use Rattle.std.specs.Prelude.{◌≡◌, ◌==◌, ◌&&◌, not, ◌++◌, ◌∷◌, [], ℕ, IfOk, List, false, map};
+ghost use Rattle.std.specs.Prelude.{◌≡◌, ◌==◌, ◌&&◌, not, ◌++◌, ◌∷◌, [], ℕ, IfOk, List, true, false, map};
 ghost use Rattle.std.specs.List.{list_any};
 ghost use Rattle.psi_tables.specs.Loops.{entries_of};
 ghost use Rattle.service_tables.specs.Clock.{clock_among};
-ghost use Rattle.service_tables.specs.Reading.{AreListed, HaveReadMaps, entry_of, map_of};
+ghost use Rattle.service_tables.specs.Reading.{AreListed, HasCome, HaveReadMaps, entry_of, map_of};
 ghost use Rattle.service_tables.specs.Tables.{entries_in};
 
 use crate::first_section::{FirstSection, Table};
@@ -47,9 +47,10 @@ impl Model for Programmes {
 }
 
 impl Programmes {
-    ghost use Rattle.std.specs.Prelude.{◌≡◌, ◌++◌, ◌∷◌, [], ℕ, IfOk, List, None, false, map};
+    ghost use Rattle.std.specs.Prelude.{◌≡◌, ◌++◌, ◌∷◌, [], ℕ, IfOk, List, None, true, false, map};
+    ghost use Rattle.std.specs.Option.{is_some};
     ghost use Rattle.service_tables.specs.Clock.{clock_pid};
-    ghost use Rattle.service_tables.specs.Reading.{HasRead, map_of};
+    ghost use Rattle.service_tables.specs.Reading.{HasCome, HasRead, map_of};
     ghost use Rattle.service_tables.specs.Tables.{programme_maps};
 
     /// What was fed no packet.
@@ -77,6 +78,9 @@ impl Programmes {
     pub fn feed(&mut self, packet: &[u8; 188]) -> bool
         ensures read { (packets : List (List ℕ)) → HasRead self.old packets
             → HasRead self.new (packets ++ packet.now ∷ []) }
+        ensures pat { self.old.pat.section ≡ None → result ≡ is_some self.new.pat.section }
+        ensures came { is_some self.old.pat.section ≡ true → result ≡ true
+            → HasCome self.old.programmes self.new.programmes }
         ensures same { result ≡ false → self.new.is_wanting ≡ false
             → (packets : List (List ℕ)) → HasRead self.old packets
             → programme_maps (packets ++ packet.now ∷ []) ≡ programme_maps packets }
@@ -129,6 +133,7 @@ fn feed_each(programmes: &mut Vec<Programme>, packet: &[u8; 188]) -> bool
     ensures entries { map entry_of programmes.new.items ≡ map entry_of programmes.old.items }
     ensures read { (packets : List (List ℕ)) → HaveReadMaps programmes.old.items packets
         → HaveReadMaps programmes.new.items (packets ++ packet.now ∷ []) }
+    ensures came { result ≡ true → HasCome programmes.old.items programmes.new.items }
     ensures same { result ≡ false
         → (packets : List (List ℕ)) → HaveReadMaps programmes.old.items packets
         → map map_of programmes.new.items ≡ map map_of programmes.old.items }
@@ -140,6 +145,7 @@ fn feed_all(programmes: &mut [Programme], packet: &[u8; 188]) -> bool
     ensures entries { map entry_of programmes.new ≡ map entry_of programmes.old }
     ensures read { (packets : List (List ℕ)) → HaveReadMaps programmes.old packets
         → HaveReadMaps programmes.new (packets ++ packet.now ∷ []) }
+    ensures came { result ≡ true → HasCome programmes.old programmes.new }
     ensures same { result ≡ false
         → (packets : List (List ℕ)) → HaveReadMaps programmes.old packets
         → map map_of programmes.new ≡ map map_of programmes.old }

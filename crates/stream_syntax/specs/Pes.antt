@@ -119,7 +119,7 @@ has_bad_head bytes =
 abbrev pub field_place : List ℕ → ℕ
 field_place bytes = 9 + slice_index bytes 8
 
--- a header without room for the time, or a data field that is cut before its third byte
+-- a header without room for the time, or a data field of fewer than two bytes
 abbrev pub has_bad_header_length : List ℕ → Bool
 has_bad_header_length bytes = nat_lt (slice_index bytes 8) 5 || nat_lt (length bytes) (field_place bytes + 2)
 

@@ -95,6 +95,8 @@ pub data Fate : Type 0 where
 abbrev pub is_unbounded : List ℕ → Bool
 is_unbounded bytes = not (has_prefix bytes) || (length_in bytes == 0)
 
+-- what becomes of the bytes of a unit so far: they wait for more, are whole up to the length that they tell, or tell of
+-- more than there is room for
 unfoldable pub fate_of : ℕ → List ℕ → Fate
 fate_of size bytes =
     if nat_lt (length bytes) 6 then Waits
@@ -141,6 +143,7 @@ joined hand (Some (Begins payload)) = Some payload
 joined hand (Some (Adds payload)) = option_map (λ bytes. bytes ++ payload) hand
 joined hand (Some Breaks) = None
 
+-- the unit that its fate hands out, if it does
 abbrev pub handed_out : Option Fate → Option (List ℕ)
 handed_out None = None
 handed_out (Some Waits) = None

@@ -2,6 +2,7 @@
 use Rattle.std.specs.Prelude.{◌≡◌, ℕ, ◌+◌, Bool, if◌then◌else◌, List, [], ◌∷◌, ◌++◌, take, min, Option, Some, None}
 use Rattle.stream_syntax.specs.Units.{UnitPart, last_counter, hand_after, fate_of, is_waiting, joined}
 
+-- the PID that is read, the room for a unit, and what is in hand
 pub record Demuxing : Type 0 where
   pub pid : ℕ
   pub size : ℕ

@@ -13,6 +13,7 @@ pub record IsPayloadOf (packet : List ℕ) (payload : Payload) : Type 0 where
   pub bytes : payload.bytes.now ≡ payload_of packet
   pub short : length payload.bytes.now ≤ PAYLOAD_LENGTH
 
+-- a packet of another PID, a damaged one, one without a payload, or one with that payload
 abbrev pub IsKind : ℕ → List ℕ → Kind → Type 0
 IsKind pid packet kind.Other = (pid_of packet == pid) ≡ false
 IsKind pid packet kind.Damaged = ((pid_of packet == pid) ≡ true) × (has_error_flag packet ≡ true)

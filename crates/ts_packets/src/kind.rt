@@ -20,12 +20,12 @@ pub enum Kind<'a> {
     Payload(Payload<'a>),
 }
 
-/// The bytes of a unit in a packet, with the packet's counter, and whether a unit begins with them.
+/// The payload of a packet, with the packet's counter, and whether it has the start flag.
 #[derive(Clone, Copy)]
 pub struct Payload<'a> {
     /// The continuity counter, 0 to 15 (continuity_counter).
     pub counter: u8,
-    /// Whether a unit begins with these bytes (payload_unit_start_indicator).
+    /// Whether a unit begins with these bytes, or a section in them (payload_unit_start_indicator).
     pub start: bool,
     /// The bytes of the payload.
     pub bytes: &'a [u8],
@@ -79,8 +79,8 @@ pub fn kind_of(pid: u16, packet: &[u8; 188]) -> Result<Kind<'_>, PacketFault>
     }
 }
 
-/// The payload from this place on.
-fn payload_from(packet: &[u8; 188], place: usize) -> Payload<'_>
+/// The payload from a place on, with the packet's counter and start flag.
+pub fn payload_from(packet: &[u8; 188], place: usize) -> Payload<'_>
     requires low { 4 ≤ place }
     requires high { place < 188 }
     ensures counter { result.counter ≡ counter_of packet.now }

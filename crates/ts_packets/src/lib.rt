@@ -15,7 +15,7 @@ mod laws;
 
 pub use brought::Brought;
 pub use demux::{Demux, Fed};
-pub use kind::{Kind, Payload, is_of_pid, kind_of};
+pub use kind::{Kind, Payload, is_of_pid, kind_of, payload_from};
 pub use laws::every_cutting_gives_its_unit;
-pub use packetiser::{Packetiser, null_packet};
+pub use packetiser::{HEAD_LENGTH, Packetiser, null_packet};
 pub use stream_syntax::{Event, PacketFault};

@@ -7,15 +7,9 @@ ghost use Rattle.page_core.specs.Private.ClutSteps.{IsPushed, IsVersionOf, with_
 ghost use Rattle.page_core.specs.Composition.{KeptClut, clut_in};
 ghost use Rattle.page_core.specs.Private.Nodes.{clut_node, place_kept};
 
-use crate::composition::{CompositionMemory, node_at};
+use crate::composition::{CLUTS, COLOURS, CompositionMemory, node_at};
 use crate::node::{ClutNode, Node, TablePlace};
 use comp_pool::{NodeId, Pool};
-
-/// The list of the CLUTs.
-const CLUTS: u32 = 2;
-
-/// The list of the table entries that are set.
-const COLOURS: u32 = 3;
 
 impl CompositionMemory {
     /// The version of the CLUT of that id; none where the epoch has none.

@@ -15,17 +15,14 @@ ghost use Rattle.page_core.specs.Private.Nodes.{kept_in, list_count, listings_li
 ghost use Rattle.page_core.specs.Private.ObjectFaults.{fault_in_kept, fault_in_node, fault_in_pair, fault_in_region_node, least_of, told};
 ghost use Rattle.page_core.specs.Private.Painted.{HasRegion};
 
-use crate::composition::CompositionMemory;
 use crate::composition::listings::{Painter, listings_of, paint_list};
 use crate::composition::objects::{RegionFault, fault_of, lesser, painter};
+use crate::composition::{CompositionMemory, REGIONS};
 use crate::node::{Node, RegionNode};
 use comp_pool::Pool;
 use pixel_store::Store;
 use segments::ObjectSeg;
 use stream_syntax::SegmentFault;
-
-/// The list of the regions.
-const REGIONS: u32 = 1;
 
 impl CompositionMemory {
     /// Paints the object through all listings that it paints, region by region, and keeps its

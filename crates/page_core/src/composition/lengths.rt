@@ -4,14 +4,11 @@ ghost use Rattle.std.specs.Prelude.{◌≡◌, ◌<◌, ◌^◌, length, Some};
 ghost use Rattle.comp_pool.specs.Pool.{list_of, node_count};
 ghost use Rattle.page_core.specs.Composition.{KeptRegion, region_in};
 
-use crate::composition::CompositionMemory;
 use crate::composition::listings::listings_of;
 use crate::composition::walk::Walk;
+use crate::composition::{CompositionMemory, ENTRIES};
 use crate::node::Node;
 use comp_pool::Pool;
-
-/// The list of the page's entries.
-const ENTRIES: u32 = 0;
 
 impl CompositionMemory {
     /// How many entries the page has.

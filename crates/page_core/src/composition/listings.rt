@@ -16,6 +16,7 @@ ghost use Rattle.block_painting.specs.Writing.{IsWritten};
 ghost use Rattle.page_core.specs.Private.ObjectFaults.{fault_by_node, fault_through};
 ghost use Rattle.page_core.specs.Private.Painted.{HasRegion, field_runs};
 
+use crate::composition::FIRST_LISTINGS;
 use crate::node::{ListingNode, Node, RegionNode};
 use crate::painting_objects::paint_object;
 use comp_pool::Pool;
@@ -37,7 +38,7 @@ pub(crate) fn listings_of(id: u8) -> u32
     ensures list { result ≡ listings_list id }
     ensures within { result < list_count }
 {
-    4 + u32::from(id)
+    FIRST_LISTINGS + u32::from(id)
 }
 
 /// Paints the object through the items of a list, in order, and keeps its version for the listings

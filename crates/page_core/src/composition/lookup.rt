@@ -5,14 +5,11 @@ ghost use Rattle.std.specs.List.{list_any};
 ghost use Rattle.stream_syntax.specs.declared.page.PageEntry.{PageEntry as EntryOf};
 ghost use Rattle.page_core.specs.Private.Nodes.{entry_in as entry_of};
 
-use crate::composition::CompositionMemory;
+use crate::composition::{CompositionMemory, ENTRIES};
 use crate::node::Node;
 use comp_pool::{NodeId, Pool};
 use std::marker::Model;
 use stream_syntax::PageEntry;
-
-/// The list of the page's entries.
-const ENTRIES: u32 = 0;
 
 /// The entries of a page, one after another. It is seen as the list of the entries that come.
 #[derive(Drop)]

@@ -6,13 +6,10 @@ ghost use Rattle.segments.specs.Contents.{page_value};
 ghost use Rattle.page_core.specs.Composition.{with_entries};
 ghost use Rattle.page_core.specs.Private.PageEntries.{HasEntries};
 
-use crate::composition::CompositionMemory;
+use crate::composition::{CompositionMemory, ENTRIES};
 use crate::node::Node;
 use comp_pool::Pool;
 use segments::PageSeg;
-
-/// The list of the page's entries.
-const ENTRIES: u32 = 0;
 
 impl CompositionMemory {
     /// Puts the entries of a page in the place of those that were there.

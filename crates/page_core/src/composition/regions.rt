@@ -9,13 +9,10 @@ ghost use Rattle.page_core.specs.Private.PoolChanges.{HasListings, IsRegionSet};
 ghost use Rattle.page_core.specs.Private.RegionSteps.{slot_in, with_head, with_listings, with_region, without_listings};
 
 use crate::composition::listings::listings_of;
-use crate::composition::{CompositionMemory, node_at};
+use crate::composition::{CompositionMemory, REGIONS, node_at};
 use crate::node::{ListingNode, Node, RegionNode};
 use comp_pool::{NodeId, Pool};
 use segments::RegionSeg;
-
-/// The list of the regions.
-const REGIONS: u32 = 1;
 
 impl CompositionMemory {
     /// Takes the listings of the region of that id out.

@@ -18,7 +18,8 @@ impl Core {
     pub(super) fn take_regions(&mut self, bytes: &[u8])
         ensures holds { (older set : List Content) → HoldsSegments older self.old
             → AreContents set bytes.now → AreApart [] (filter is_region set)
-            → AreRegionsValid older set self.old → HoldsSegments (with_regions_of older set) self.new }
+            → AreRegionsValid older set self.old
+            → HoldsSegments (with_regions_of older set) self.new }
         ensures pixels { (older set : List Content) → HoldsSegments older self.old
             → AreContents set bytes.now → AreApart [] (filter is_region set)
             → AreRegionsValid older set self.old

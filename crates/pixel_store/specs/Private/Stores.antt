@@ -36,6 +36,7 @@ abbrev pub IsTidy : List ℕ → Extent → Type 0
 IsTidy bytes extent =
     (x y : ℕ) → extent.width ≤ x → x < room_of extent → y < extent.height → pixel bytes extent x y ≡ 0
 
+-- the regions stand one after another within the bytes, and each is tidy
 pub record IsStore (bytes : List ℕ) (used : ℕ) (extents : List Extent) : Type 0 where
   pub adjoin : Adjoin 0 extents used
   pub within : used ≤ length bytes

@@ -1,4 +1,4 @@
-use Rattle.std.proofs.Common.{◌∙◌, ◌&&◌, ap, not, sym, subst}
+use Rattle.std.proofs.Common.{◌∙◌, ◌&&◌, ap, is_some, not, sym, subst}
 use Rattle.service_tables.specs.Reading.{HasReadMap, ProgrammeReading, map_of}
 use Rattle.service_tables.proofs.FirstLaws.{programme_fed, programme_same}
 use Rattle.service_tables.proofs.programme.Programme.feed.Goals as goal
@@ -12,6 +12,11 @@ returns-clause-read c = λ packets is.
     })
     c.feed.new.self c.feed.new.taker c.args.packet.now c.feed.ensures.goes_on c.feed.ensures.taken packets
     (subst (λ (p : ProgrammeReading). HasReadMap p packets) (sym c.self.view_is) is)
+
+pub returns-clause-came : goal.returns-clause-came
+returns-clause-came c =
+    c.has_come.ensures ∙ (λ i. not (c.is_found-was_found.ensures i) && c.is_found.ensures i)
+    ∙ ap (λ (p : ProgrammeReading). not (is_some p.map.section) && is_some c.feed.new.taker.section) c.self.view_is
 
 pub returns-clause-same : goal.returns-clause-same
 returns-clause-same c = λ none packets is.
