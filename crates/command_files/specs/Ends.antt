@@ -62,3 +62,8 @@ IsKeptWith words run = (has_stream : Bool) × (has_written : Bool)
 abbrev pub HasCode : List (List ℕ) → ℕ → Type 0
 HasCode words code =
     (run : Status) × MayEnd words run × ((code ≡ code_of run) ⊎ (IsKeptWith words run × (code ≡ 6)))
+
+-- the code of the program: that of the command that its words are; or 2 where a word is no text in UTF-8, and 7 where
+-- no memory was found for the words
+abbrev pub HasRunCode : ℕ → Type 0
+HasRunCode code = ((words : List (List ℕ)) × HasCode words code) ⊎ ((code ≡ 2) ⊎ (code ≡ 7))

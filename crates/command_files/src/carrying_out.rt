@@ -1,6 +1,6 @@
 ghost use Rattle.std.specs.Prelude.{◌≡◌, None};
 ghost use Rattle.dvbsub_words.specs.Command.{command_of};
-ghost use Rattle.command_files.specs.Ends.{is_told_of_stream, kind_of_words, HasCode};
+ghost use Rattle.command_files.specs.Ends.{is_told_of_stream, kind_of_words, HasCode, HasRunCode};
 
 use crate::ending::ended;
 use crate::reasons::explain;
@@ -15,7 +15,9 @@ use sub_base::{FileSink, FileSource, NoGate, Words};
 
 /// Carries out the command that the words of the command line are, and answers the code of its
 /// status. Words that are no text in UTF-8 are a wrong command line.
-pub fn run<T: Threads + Sync>(rt: &HostRuntime, threads: &T) -> u8 {
+pub fn run<T: Threads + Sync>(rt: &HostRuntime, threads: &T) -> u8
+    ensures { HasRunCode result }
+{
     match words_of(rt) {
         Ok(words) => carry_out(rt, threads, &words),
         Err(WordsFault::Memory) => tell_on(rt, Status::Memory, false),
@@ -27,9 +29,6 @@ pub fn run<T: Threads + Sync>(rt: &HostRuntime, threads: &T) -> u8 {
 }
 
 /// Carries out the command that the words are, and answers the code of its status.
-///
-/// The line of the status waits until the output's file is there, so `done` is told only where it
-/// is.
 pub fn carry_out<T: Threads + Sync>(rt: &HostRuntime, threads: &T, words: &Words) -> u8
     ensures code { HasCode words.now result }
     ensures usage { command_of words.now ≡ None → result ≡ 2 }
@@ -58,6 +57,8 @@ pub fn carry_out<T: Threads + Sync>(rt: &HostRuntime, threads: &T, words: &Words
         &mut FileSink::make(Some(io::sink())),
         &NoGate,
     );
+    // The line of the status waits for `ended`, so `done` is told only where the output's file is
+    // there.
     let status = ended(&mut output, kind, status);
     explain(rt, words, status, output.is_refused());
     tell_on(rt, status, output.is_standard_output())

@@ -6,12 +6,10 @@ use refusal_text::{
     FileFault, Text, command_refusal, file_refusal, font_refusal, packet_refusal, plan_refusal,
     schedule_refusal, script_refusal,
 };
+use script_input::TEXT_LIMIT;
 use std::fs;
 use std::io::Write;
 use sub_base::{FileSource, NoMemory, Profile, ProfileName, Words, read_all};
-
-/// The most bytes of a script or a font, which is read again to be quoted.
-const TEXT_LIMIT: u64 = 67_108_864;
 
 /// Writes a sentence to standard error that says why the command of these words ended so, where it
 /// was not done. Without memory for a sentence there is none.

@@ -40,7 +40,7 @@ pub fn told<E: Sink, O: Sink>(status: Status, errors: &mut E, out: &mut O) -> u8
         → WroteNothing (E.received errors.old) (E.received errors.new) }
 {
     if let Status::Usage = status {
-        let _ = tell_table(errors, COMMANDS);
+        tell_table(errors, COMMANDS);
     }
     tell(status, out).code()
 }

@@ -1,5 +1,7 @@
-ghost use Rattle.std.specs.Prelude.{◌≡◌, is_ok};
+ghost use Rattle.std.specs.Prelude.{◌≡◌, ◌||◌, ◌↔◌, None, true, false, is_ok, nat_lt, IsErr, IsTrue, IfOk, IfSome};
 ghost use Rattle.std.specs.Io.{WritesAtMost};
+ghost use Rattle.program_files.specs.Identity.{has_numbers as is_file_of};
+ghost use Rattle.program_files.specs.declared.output.Place.TheVariants.{Nowhere, StandardOutput};
 
 use crate::identity::{FileNumbers, has_numbers, is_input, numbers_in};
 use crate::new_file::NewFile;
@@ -79,12 +81,16 @@ impl<'a> Output<'a> {
     }
 
     /// Whether standard output itself has the output: then it can have no line besides.
-    pub fn is_standard_output(&self) -> bool {
+    pub fn is_standard_output(&self) -> bool
+        ensures { IsTrue result ↔ (self.now.place ≡ StandardOutput) }
+    {
         matches!(self.place, Place::StandardOutput)
     }
 
     /// Whether it has nowhere to go: it is an input, or has no name.
-    pub fn is_refused(&self) -> bool {
+    pub fn is_refused(&self) -> bool
+        ensures { IsTrue result ↔ (self.now.place ≡ Nowhere) }
+    {
         matches!(self.place, Place::Nowhere)
     }
 
@@ -114,7 +120,9 @@ impl<'a> Output<'a> {
     }
 
     /// The output is not to be kept: what was there stays as it was.
-    pub fn abandon(&mut self) {
+    pub fn abandon(&mut self)
+        ensures unfinished { self.new.is_finished ≡ self.old.is_finished }
+    {
         if let Some(Opened::Beside(new)) = self.opened.take() {
             new.remove(self.rt);
         }
@@ -123,6 +131,7 @@ impl<'a> Output<'a> {
     /// Writes to what was opened, and where nothing was to standard output.
     fn put(&mut self, piece: &[u8]) -> io::Result<usize>
         ensures bound { WritesAtMost result piece.now }
+        ensures written { self.new.has_written ≡ self.old.has_written }
     {
         match &mut self.opened {
             Some(Opened::Straight(file)) => file.write(piece),
@@ -131,7 +140,11 @@ impl<'a> Output<'a> {
         }
     }
 
-    fn make(&mut self) -> io::Result<()> {
+    /// Opens what is written to, where that was not done.
+    fn make(&mut self) -> io::Result<()>
+        ensures nowhere { self.old.place ≡ Nowhere → self.old.opened ≡ None → IsErr result }
+        ensures written { self.new.has_written ≡ self.old.has_written }
+    {
         if self.opened.is_some() {
             return Ok(());
         }
@@ -147,14 +160,24 @@ impl<'a> Output<'a> {
         }
         Ok(())
     }
-}
 
-impl Write for Output<'_> {
-    fn write(&mut self, piece: &[u8]) -> io::Result<usize> {
+    /// Writes to what is open or is opened for it, and notes that something was written.
+    fn write_on(&mut self, piece: &[u8]) -> io::Result<usize>
+        ensures bound { WritesAtMost result piece.now }
+        ensures nowhere { self.old.place ≡ Nowhere → self.old.opened ≡ None → IsErr result }
+        ensures noted { IfOk result
+            (λ count. self.new.has_written ≡ (self.old.has_written || nat_lt 0 count)) }
+    {
         self.make()?;
         let count = self.put(piece)?;
         self.has_written = self.has_written || count > 0;
         Ok(count)
+    }
+}
+
+impl Write for Output<'_> {
+    fn write(&mut self, piece: &[u8]) -> io::Result<usize> {
+        self.write_on(piece)
     }
 
     fn flush(&mut self) -> io::Result<()> {
@@ -172,11 +195,28 @@ fn place_of<'a>(
     let Some(name) = name else {
         return Place::Nowhere;
     };
-    match numbers_at(rt, name) {
-        Some(numbers) if is_input(numbers, first, second) => Place::Nowhere,
-        Some(numbers) if has_numbers(numbers, numbers_at(rt, STANDARD_OUTPUT)) => {
-            Place::StandardOutput
-        }
+    let standard = numbers_at(rt, STANDARD_OUTPUT);
+    place_by(name, numbers_at(rt, name), standard, first, second)
+}
+
+/// The same, by the numbers of what has that name, of standard output and of the inputs.
+fn place_by<'a>(
+    name: &'a str,
+    numbers: Option<FileNumbers>,
+    standard: Option<FileNumbers>,
+    first: Option<FileNumbers>,
+    second: Option<FileNumbers>,
+) -> Place<'a>
+    // No input is written to, whatever it is called.
+    ensures input { IfSome numbers (λ there.
+        (is_file_of there first || is_file_of there second) ≡ true → result ≡ Nowhere) }
+    ensures standard { IfSome numbers (λ there.
+        (is_file_of there first || is_file_of there second) ≡ false
+        → is_file_of there standard ≡ true → result ≡ StandardOutput) }
+{
+    match numbers {
+        Some(there) if is_input(there, first, second) => Place::Nowhere,
+        Some(there) if has_numbers(there, standard) => Place::StandardOutput,
         _ => Place::Straight(name),
     }
 }

@@ -17,7 +17,7 @@ returns-clause-code g c =
       answer = c.top-status.result;
       ending = c.ended-status.result;
       cause = c.top-status.ensures.cause;
-      kept = c.ended-status.ensures;
+      kept = c.ended-status.ensures.ending;
       told = c.tell_on.ensures;
     })
 
