@@ -229,16 +229,16 @@ fn limits_are_told(rt: HostRuntime) {
 #[test]
 fn quotations_are_short(rt: HostRuntime) {
     let alloc = rt.alloc();
-    let mut record = String::from_str(alloc, "\u{1B}").expect(&rt, "memory");
-    for _ in 0..59 {
+    let mut record = String::from_str(alloc, "\u{1B}\u{9B}").expect(&rt, "memory");
+    for _ in 0..58 {
         record.push_str("ä").expect(&rt, "memory");
     }
     record.push_str("äää").expect(&rt, "memory");
     let script = format!(in alloc; "{record}\n").expect(&rt, "memory");
     let script = Some(script.as_str().as_bytes());
     let told = script_refusal(alloc, script, None, 1, ScriptKind::Unknown).expect(&rt, "memory");
-    let mut wanted = String::from_str(alloc, "record 1, .").expect(&rt, "memory");
-    for _ in 0..59 {
+    let mut wanted = String::from_str(alloc, "record 1, ...").expect(&rt, "memory");
+    for _ in 0..58 {
         wanted.push_str("ä").expect(&rt, "memory");
     }
     wanted

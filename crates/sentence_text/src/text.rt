@@ -1,11 +1,11 @@
-ghost use Rattle.std.specs.Prelude.{◌≡◌, ◌++◌, [], OnOk, map};
+ghost use Rattle.std.specs.Prelude.{◌≡◌, ◌++◌, [], OnOk};
 ghost use Rattle.std.specs.Fmt.{decimal};
 ghost use Rattle.std.specs.List.{flat_map};
-ghost use Rattle.sentence_text.specs.Quotation.{quoted, shown_byte};
+ghost use Rattle.sentence_text.specs.Quotation.{quoted, shown};
 ghost use Rattle.sentence_text.specs.Parts.{part_text};
 
 use crate::part::Part;
-use crate::quotation::{cut, shown};
+use crate::quotation::{cut, shown_at};
 use itoa::Buffer;
 use std::alloc::Global;
 use std::marker::Model;
@@ -89,10 +89,10 @@ impl Text {
     }
 
     fn put_shown(&mut self, bytes: &[u8]) -> Result<(), NoMemory>
-        ensures { OnOk result (self.new ≡ self.old ++ map shown_byte bytes.now) }
+        ensures { OnOk result (self.new ≡ self.old ++ shown bytes.now) }
     {
-        for byte in bytes {
-            self.bytes.push(shown(*byte))?;
+        for place in 0..bytes.len() {
+            self.bytes.push(shown_at(bytes, place))?;
         }
         Ok(())
     }
