@@ -45,7 +45,7 @@ pub record AreAsked (bands : ℕ) (ticks : List ℕ) : Type 0 where
   pub few : bands ≤ 64
   pub rising : IsStrictlyIncreasing ticks
 
--- no set is ready
+-- the bands are few enough and the ticks rise, no set is ready, and no more ticks were told than there are
 pub record IsDumping (dumping : Dumping) : Type 0 where
   pub asked : AreAsked dumping.bands dumping.ticks
   pub none : ready_sets dumping.receiving.sets ≡ []

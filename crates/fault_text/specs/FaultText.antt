@@ -30,6 +30,7 @@ unfoldable pub ends_of : Profile → ℕ → List (Delivery Reading) → List (O
 ends_of profile anchor [] = []
 ends_of profile anchor (one ∷ past) = verdict_of profile anchor past one ∷ ends_of profile anchor past
 
+-- a set that is shown
 abbrev pub is_shown : Option SetEnd → Bool
 is_shown None = false
 is_shown (Some Shown) = true
@@ -37,6 +38,7 @@ is_shown (Some Waiting) = false
 is_shown (Some (Broken fault)) = false
 is_shown (Some (NotLater last)) = false
 
+-- a set that waits for the page
 abbrev pub is_waiting : Option SetEnd → Bool
 is_waiting None = false
 is_waiting (Some Shown) = false
@@ -44,6 +46,7 @@ is_waiting (Some Waiting) = true
 is_waiting (Some (Broken fault)) = false
 is_waiting (Some (NotLater last)) = false
 
+-- a set that is broken
 abbrev pub is_broken : Option SetEnd → Bool
 is_broken None = false
 is_broken (Some Shown) = false
@@ -51,6 +54,7 @@ is_broken (Some Waiting) = false
 is_broken (Some (Broken fault)) = true
 is_broken (Some (NotLater last)) = false
 
+-- a set that is not later than the last kept one
 abbrev pub is_not_later : Option SetEnd → Bool
 is_not_later None = false
 is_not_later (Some Shown) = false
@@ -58,6 +62,7 @@ is_not_later (Some Waiting) = false
 is_not_later (Some (Broken fault)) = false
 is_not_later (Some (NotLater last)) = true
 
+-- a loss
 abbrev pub is_loss : Option SetEnd → Bool
 is_loss None = true
 is_loss (Some end) = false
@@ -93,6 +98,7 @@ end_text (NotLater last) = codes " notlater"
 abbrev pub set_front : ℕ → ℕ → List ℕ
 set_front number pts = codes "set" ++ then_number number ++ then_number pts
 
+-- the line of a set: its number, its time, and what becomes of it
 abbrev pub set_line : ℕ → ℕ → SetEnd → List ℕ
 set_line number pts end = set_front number pts ++ end_text end ++ line_end
 

@@ -13,4 +13,3 @@ mod taking;
 mod tally;
 
 pub use faults::Faults;
-pub use tally::Tally;

@@ -4,7 +4,8 @@ use Rattle.std.proofs.lemmas.Bool.{cases_lt}
 use Rattle.std.proofs.lemmas.Grind.{div_ceil_times}
 use Rattle.stream_syntax.specs.declared.wire.TheConstants.{PACKET_LENGTH}
 use Rattle.sub_base.specs.declared.pace.TheConstants.{SECOND}
-use Rattle.level_text.specs.RateClock.{arrival_tick, div_up}
+use Rattle.pcr_clock.specs.Arrivals.{div_up}
+use Rattle.level_text.specs.RateClock.{arrival_tick}
 
 -- a quotient that is rounded up rises with what is divided
 up_rises : (a b c : ℕ) → 0 < c → a ≤ b → div_up a c ≤ div_up b c

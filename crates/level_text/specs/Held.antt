@@ -42,6 +42,7 @@ pub record IsValidPacket (pid : ℕ) (packet : List ℕ) : Type 0 where
   pub bytes : AreAllBytes packet
   pub right : packet_fault pid packet ≡ None
 
+-- each of these packets is of bytes and can be taken
 abbrev pub AreValidPackets : ℕ → List (List ℕ) → Type 0
 AreValidPackets pid packets = AllByRecursion (IsValidPacket pid) packets
 

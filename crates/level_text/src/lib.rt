@@ -13,8 +13,6 @@ mod held;
 mod packet_check;
 mod programme_levels;
 
-pub use anchored_meter::LATEST_ANCHOR;
-pub use clock_levels::ClockLevels;
 pub use programme_levels::ProgrammeLevels;
-pub use rate_clock::{GREATEST_RATE, LEAST_RATE, RateClock};
+pub use rate_clock::{GREATEST_RATE, LEAST_RATE};
 pub use rate_levels::RateLevels;

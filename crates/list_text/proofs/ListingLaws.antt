@@ -10,9 +10,10 @@ use Rattle.stream_syntax.specs.declared.transport.Event.{Event}
 use Rattle.stream_syntax.specs.declared.transport.Event.TheVariants as event
 use Rattle.packet_walk.specs.Told.{TellsOne}
 use Rattle.ts_packets.specs.Demuxing.{Demuxing, HasDemuxed, DemuxesOn}
+use Rattle.sub_base.specs.declared.profile.TheConstants.{LARGEST_BUFFER}
 use Rattle.list_text.specs.Listing.{IsListed}
 use Rattle.list_text.specs.ListLines.{loss_line}
-use Rattle.list_text.specs.ListText.{ArePacketLines, AreEndLines, IsListText, unit_limit}
+use Rattle.list_text.specs.ListText.{ArePacketLines, AreEndLines, IsListText}
 use Rattle.command_text.specs.Putting.{Buffered, PutsOut}
 use Rattle.sub_base.specs.Endpoints.{Received}
 use Rattle.command_text.proofs.PutLaws.{PutsOut-both, PutsOut-nothing}
@@ -74,11 +75,11 @@ pub packet_listed : (before mid next : Received) (old new : Demuxing) (was betwe
     → TellsOne IsListed before next old new was is place packet
 packet_listed before mid next old new was between is place packet event unit goes event_is unit_is loss end = record {
   goes = λ packets text. λ count listed.
-      let event_here : event ≡ event_at old.pid unit_limit packets packet =
+      let event_here : event ≡ event_at old.pid LARGEST_BUFFER packets packet =
       event_is packets listed.stands ∙ ap (λ (s : ℕ). event_at old.pid s packets packet) listed.size_is in
-      let unit_here : unit ≡ unit_at old.pid unit_limit packets packet =
+      let unit_here : unit ≡ unit_at old.pid LARGEST_BUFFER packets packet =
       unit_is packets listed.stands ∙ ap (λ (s : ℕ). unit_at old.pid s packets packet) listed.size_is in
-      let ended : AreEndLines (length packets) (unit_at old.pid unit_limit packets packet) end.0 =
+      let ended : AreEndLines (length packets) (unit_at old.pid LARGEST_BUFFER packets packet) end.0 =
       subst (λ (u : Option (List ℕ)). AreEndLines (length packets) u end.0) unit_here
       (subst (λ (n : ℕ). AreEndLines n unit end.0) (sym count) end.1) in
       let lines = loss_line place event ++ end.0 in

@@ -12,10 +12,6 @@ use Rattle.stream_syntax.specs.DataField.{Frame, segment, broken, AreFrames}
 use Rattle.sub_base.specs.declared.profile.TheConstants.{LARGEST_BUFFER}
 use Rattle.list_text.specs.ListLines.{loss_line, unit_line, pes_line, segment_line, fault_line}
 
--- units that need more bytes are dropped: no receiver has a larger coded data buffer
-abbrev pub unit_limit : ℕ
-unit_limit = LARGEST_BUFFER
-
 -- the line of a segment at that place of its field: of what its head says, or of its first fault
 pub data IsSegmentLine : ℕ → List ℕ → List ℕ → Type 0 where
   right : {place : ℕ} {bytes line : List ℕ} (value : SegmentValue) → IsSegment bytes value
@@ -54,11 +50,12 @@ abbrev pub AreEndLines : ℕ → Option (List ℕ) → List ℕ → Type 0
 AreEndLines place None lines = lines ≡ []
 AreEndLines place (Some unit) lines = AreUnitLines place unit lines
 
--- the lines at a packet, by the packets before it: of its loss, and then of the unit that it ends
+-- the lines at a packet, by the packets before it: of its loss, and then of the unit that it ends. Units that need more
+-- bytes than the largest coded data buffer has are dropped
 pub record ArePacketLines (pid : ℕ) (before : List (List ℕ)) (packet lines : List ℕ) : Type 0 where
   pub of_unit : List ℕ
-  pub ended : AreEndLines (length before) (unit_at pid unit_limit before packet) of_unit
-  pub whole : lines ≡ loss_line (length before) (event_at pid unit_limit before packet) ++ of_unit
+  pub ended : AreEndLines (length before) (unit_at pid LARGEST_BUFFER before packet) of_unit
+  pub whole : lines ≡ loss_line (length before) (event_at pid LARGEST_BUFFER before packet) ++ of_unit
 
 -- the text of a list of packets: the lines at each of them, in order
 pub record IsListText (pid : ℕ) (packets : List (List ℕ)) (text : List ℕ) : Type 0 where

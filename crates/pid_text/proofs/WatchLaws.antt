@@ -10,7 +10,8 @@ use Rattle.stream_syntax.specs.Units.{each_after, unit_at}
 use Rattle.stream_syntax.specs.declared.transport.PacketFault.{PacketFault}
 use Rattle.ts_packets.proofs.UnitLemmas.{each_after_push}
 use Rattle.ts_packets.specs.Demuxing.{Demuxing, DemuxesOn, HasDemuxed}
-use Rattle.pid_text.specs.PidUnits.{SubtitleUnit, UNIT_LIMIT, begins_private, from_first, is_own, subtitles_in, subtitles_of, watched}
+use Rattle.sub_base.specs.declared.profile.TheConstants.{LARGEST_BUFFER}
+use Rattle.pid_text.specs.PidUnits.{SubtitleUnit, begins_private, from_first, is_own, subtitles_in, subtitles_of, watched}
 use Rattle.pid_text.specs.Private.Tallying.{HasTallied, with_one}
 use Rattle.pid_text.specs.Private.Watching.{BeginsWith, FeedsOn, IsWatch, IsWatching}
 use Rattle.pid_text.specs.declared.pid_tally.PidTally.{PidTally}
@@ -101,22 +102,23 @@ of_other_pid pid packet apart =
 
 units_push : (pid : ℕ) (packets : List (List ℕ)) (packet : List ℕ)
     → subtitles_of pid (packets ++ packet ∷ [])
-    ≡ with_one (subtitles_of pid packets) (option_and_then subtitles_in (unit_at pid UNIT_LIMIT packets packet))
+    ≡ with_one (subtitles_of pid packets) (option_and_then subtitles_in (unit_at pid LARGEST_BUFFER packets packet))
 unfolding subtitles_of
 units_push pid packets packet =
     ap (filter_map (λ ended. option_and_then subtitles_in ended))
-    (each_after_push (unit_at pid UNIT_LIMIT) [] packets packet)
-    ∙ filter_map-append (λ ended. option_and_then subtitles_in ended) (each_after (unit_at pid UNIT_LIMIT) [] packets)
-    (unit_at pid UNIT_LIMIT packets packet ∷ [])
-    ∙ last (option_and_then subtitles_in (unit_at pid UNIT_LIMIT packets packet))
-    (filter_map (λ ended. option_and_then subtitles_in ended) (each_after (unit_at pid UNIT_LIMIT) [] packets))
+    (each_after_push (unit_at pid LARGEST_BUFFER) [] packets packet)
+    ∙ filter_map-append (λ ended. option_and_then subtitles_in ended)
+    (each_after (unit_at pid LARGEST_BUFFER) [] packets)
+    (unit_at pid LARGEST_BUFFER packets packet ∷ [])
+    ∙ last (option_and_then subtitles_in (unit_at pid LARGEST_BUFFER packets packet))
+    (filter_map (λ ended. option_and_then subtitles_in ended) (each_after (unit_at pid LARGEST_BUFFER) [] packets))
   where
     last : (one : Option SubtitleUnit) (units : List SubtitleUnit)
         → units ++ filter_map (λ x. x) (one ∷ []) ≡ with_one units one
     last None units = append-nil units
     last (Some unit) units = refl
 
-pub nothing_watched : (pid : ℕ) (demux : Demuxing) (tally : PidTally) → demux.pid ≡ pid → demux.size ≡ UNIT_LIMIT
+pub nothing_watched : (pid : ℕ) (demux : Demuxing) (tally : PidTally) → demux.pid ≡ pid → demux.size ≡ LARGEST_BUFFER
     → HasDemuxed demux [] → HasTallied [] tally → IsWatch pid [] (record { demux = demux; tally = tally })
 nothing_watched pid demux tally pid_is size_is stands tallied = record {
   pid_is = pid_is;
@@ -146,7 +148,7 @@ fed_on old new packet unit taken goes unit_is counts pid packets is = (
   },
 )
   where
-    here : unit ≡ unit_at pid UNIT_LIMIT packets packet
+    here : unit ≡ unit_at pid LARGEST_BUFFER packets packet
     here = unit_is packets is.stands ∙ (λ i. unit_at (is.pid_is i) (is.size_is i) packets packet)
 
 pub fed_past : (old new : Watch) (packet : List ℕ) (fault : PacketFault)

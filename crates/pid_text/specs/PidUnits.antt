@@ -69,14 +69,11 @@ from_first test (x ∷ xs) = if test x then x ∷ xs else from_first test xs
 unfoldable pub watched : ℕ → List (List ℕ) → List (List ℕ)
 watched pid packets = from_first begins_private (filter (is_own pid) packets)
 
--- units that need more bytes are dropped, of which there are none: a length is a number of 16 bits
-abbrev pub UNIT_LIMIT : ℕ
-UNIT_LIMIT = LARGEST_BUFFER
-
--- the PES packets of subtitles that end in these packets of a PID
+-- the PES packets of subtitles that end in these packets of a PID. None needs more bytes than the largest buffer has,
+-- and none is dropped for that: a length is a number of 16 bits
 unfoldable pub subtitles_of : ℕ → List (List ℕ) → List SubtitleUnit
 subtitles_of pid packets =
-    filter_map (λ ended. option_and_then subtitles_in ended) (each_after (unit_at pid UNIT_LIMIT) [] packets)
+    filter_map (λ ended. option_and_then subtitles_in ended) (each_after (unit_at pid LARGEST_BUFFER) [] packets)
 
 -- the PES packets of subtitles of a PID
 abbrev pub units_of : ℕ → List (List ℕ) → List SubtitleUnit
@@ -84,6 +81,7 @@ units_of pid packets = subtitles_of pid (watched pid packets)
 
 -- ---- the pages in them
 
+-- a segment of the page
 abbrev pub is_of_page : ℕ → Head → Bool
 is_of_page page head = head.page == page
 

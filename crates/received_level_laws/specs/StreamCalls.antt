@@ -24,6 +24,7 @@ call_by lifted None = []
 call_by None (Some load) = Dropped ∷ []
 call_by (Some time) (Some load) = SetWhole load ∷ []
 
+-- the call of a set or loss behind this past
 abbrev pub set_call : Profile → ℕ → List (Delivery Reading) → Delivery Reading → List Call
 set_call profile anchor past delivery = call_by (lifted_time anchor past delivery)
     (set_load profile anchor past delivery)
@@ -51,9 +52,11 @@ count_with coded pid pages before packet =
 abbrev pub itself : Call → Call
 itself call = call
 
+-- what stands for the call that drops bytes, where they are dropped
 abbrev pub drop_where : {X : Type 0} → (Call → X) → Bool → List X
 drop_where of dropped = if dropped then of Dropped ∷ [] else []
 
+-- what stands for the call of so many bytes that arrive in a slot; nothing where none do
 abbrev pub arrived_in : {X : Type 0} → (Call → X) → ℕ → ℕ → List X
 arrived_in of slot bytes = if bytes == 0 then [] else of (Arrived slot bytes) ∷ []
 

@@ -41,6 +41,7 @@ plane_in memory = record { width = memory.display.width; height = memory.display
 
 -- ---- what is shown
 
+-- what is shown at a tick of a picture that is timed out then, where there is a picture: nothing once it is over
 abbrev pub view_until : Option ℕ → ℕ → Option Plane → View
 view_until until tick None = nothing
 view_until until tick (Some picture) = if is_over_at tick until then nothing else plane picture

@@ -10,6 +10,7 @@ use Rattle.receiver.specs.declared.picture.Picture.{Picture}
 abbrev pub front_of : ℕ → ℕ → List Colour → Plane
 front_of wide high places = record { width = wide; height = high; colours = take (wide * high) places }
 
+-- a kept picture as contracts see it: the front of its plane, where that is shown
 abbrev pub slot_of : Picture → Slot
 slot_of picture = record {
   time = picture.time;

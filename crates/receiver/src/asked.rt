@@ -37,11 +37,11 @@ impl Model for AskedReceiver {
 impl AskedReceiver {
     ghost use Rattle.std.specs.Prelude.{◌≡◌, ◌<◌, ◌≤◌, ◌^◌, ℕ, Bool, true, false};
     ghost use Rattle.std.specs.Prelude.{List, [], ◌∷◌, ◌++◌, reverse, unwrap_or};
-    ghost use Rattle.std.specs.Prelude.{None, Some, option_map};
+    ghost use Rattle.std.specs.Prelude.{None, Some, option_and_then, option_map};
     ghost use Rattle.std.specs.Prelude.{IfErr, IfOk, IfSome, IsSome, MatchResult, OnOk};
     ghost use Rattle.stream_syntax.specs.TransportPackets.{packet_fault};
     ghost use Rattle.stream_syntax.specs.Units.{event_at};
-    ghost use Rattle.decoder_model.specs.Kept.{last_time, lifted_time, time_of};
+    ghost use Rattle.decoder_model.specs.Kept.{last_time, lifted_behind, lifted_time, time_of};
     ghost use Rattle.decoder_model.specs.Readings.{AreDeliveriesRead, IsDeliveryRead, Reading};
     ghost use Rattle.decoder_model.specs.Received.{sets_received};
     ghost use Rattle.decoder_model.specs.Sets.{Delivery};
@@ -163,6 +163,13 @@ impl AskedReceiver {
     /// The lifted time of the set that is ready. `None` exactly where none is ready, or where it
     /// would not be kept.
     pub fn ready_at(&self) -> Option<u64>
+        ensures lifted { (fed : List (List ℕ)) (ended : Bool) (given : List (Delivery (List ℕ)))
+            (past : List (Delivery Reading))
+            → Stands ended fed given self.now → AreDeliveriesRead (reverse given) past
+            → result ≡ option_and_then
+            (lifted_behind (reception self.now).anchor
+            (last_time (reception self.now).anchor past))
+            (option_map set_time (first_ready (ready_sets self.now.sets))) }
         ensures next { (fed : List (List ℕ)) (ended : Bool)
             (given rest : List (Delivery (List ℕ)))
             (next : Delivery (List ℕ)) (past : List (Delivery Reading)) (one : Delivery Reading)

@@ -55,7 +55,7 @@ impl Picture {
         })
     }
 
-    /// ShowsStanding the page of a core, from the time that it has.
+    /// Shows the page of a core, from the time that it has.
     pub(crate) fn show<R: Threads + Sync, G: BandGate + Sync>(
         &mut self,
         rt: &R,

@@ -75,6 +75,7 @@ pub record IsMuxPrefix (pair : ServicePair) (before now : Seen) : Type 0 where
   pub second_enough : AreEnough now.second second second_rest (length first)
   pub written : WrotePrefix before.out now.out (concat (mux_of pair first second))
 
+-- a fault is that of the stream which has the packet of that place without the sync byte
 abbrev pub IsMuxRefused : ServicePair → Seen → Seen → MuxFault → Type 0
 IsMuxRefused pair before now (mux.FirstNoSync packet) = IsFirstUnsynced pair before now packet
 IsMuxRefused pair before now (mux.SecondNoSync packet) = IsSecondUnsynced pair before now packet

@@ -4,8 +4,8 @@ use Rattle.std.specs.List.{list_all}
 use Rattle.command_words.specs.PlainWords.{is_plain}
 use Rattle.command_words.specs.declared.place.InputPlaces.{InputPlaces}
 use Rattle.command_words.specs.Words.{◌>>=◌, has_word, no_places, page_of, pid_of, word_at}
-use Rattle.sub_base.specs.Number.{number_in}
 use Rattle.psi_tables.specs.declared.service.Service.{Service}
+use Rattle.service_mux.specs.TakeWords.{service_of}
 use Rattle.service_mux.specs.declared.mux_words.ServicePair.{ServicePair}
 
 -- a small letter, a to z
@@ -19,7 +19,7 @@ language_of word = if (length word == 3) && list_all is_letter word then Some wo
 -- the service that the words N M PID PAGE LANG name, from a place on
 abbrev pub service_from : ℕ → List (List ℕ) → Option Service
 service_from place words = do
-  service ← number_in 1 65535 (word_at words place)
+  service ← service_of (word_at words place)
   table ← pid_of (word_at words (place + 1))
   stream ← pid_of (word_at words (place + 2))
   its_page ← page_of (word_at words (place + 3))
@@ -33,6 +33,7 @@ are_apart one two =
     && (not (one.pmt == one.pid) && (not (one.pmt == two.pmt) && (not (one.pmt == two.pid)
     && (not (one.pid == two.pmt) && (not (one.pid == two.pid) && not (two.pmt == two.pid))))))
 
+-- two services, where they are apart
 abbrev pub if_apart : Service → Service → Option ServicePair
 if_apart first second = if are_apart first second then Some (record { one = first; two = second }) else None
 

@@ -10,6 +10,7 @@ abbrev pub named_in : Sought → List ℕ → Option ℕ
 named_in (sought.Table number) section = pmt_in number section
 named_in (sought.Subtitles number) section = pid_in number section
 
+-- the sections of a PID, as far as they were read, and what is looked for in them
 pub record TableReading : Type 0 where
   pub sections : SectionReading
   pub sought : Sought

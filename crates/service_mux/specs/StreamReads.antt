@@ -19,6 +19,7 @@ pub record IsRead (before now : Supplied) (packets : List (List ℕ)) : Type 0 w
   pub short : length rest < PACKET_LENGTH
   pub end : IsAtEnd now.left
 
+-- each of these packets begins with the sync byte
 abbrev pub HaveSync : List (List ℕ) → Type 0
 HaveSync packets = All (λ packet. has_sync packet ≡ true) packets
 

@@ -48,6 +48,7 @@ pub record IsTakeUnsynced (service : ℕ) (before now : Seen) (place : ℕ) : Ty
   pub unsynced : IsUnsynced before.first now.first place packets
   pub written : Appends before.out.written now.out.written (concat (taken_of service packets))
 
+-- a fault is that of the first packet without the sync byte, or of the service of which the stream has no subtitles
 abbrev pub IsTakeRefused : ℕ → Seen → Seen → TakeFault → Type 0
 IsTakeRefused service before now (fault.NoSync packet) = IsTakeUnsynced service before now packet
 IsTakeRefused service before now (fault.NoService number) = (number ≡ service) × IsUnserved service before now

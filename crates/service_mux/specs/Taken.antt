@@ -17,6 +17,7 @@ unfoldable pub subtitles_of : ℕ → List (List ℕ) → Option Named
 subtitles_of service packets =
     option_and_then (λ table. first_in (pid_in service) table.0 table.1) (first_in (pmt_in service) 0 packets)
 
+-- a packet is of the PID
 abbrev pub of_pid : ℕ → List ℕ → Bool
 of_pid pid packet = pid_of packet == pid
 

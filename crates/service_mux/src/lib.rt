@@ -30,8 +30,6 @@ pub use laws::services_come_again;
 pub use mux::mux_top;
 pub use mux_fault::MuxFault;
 pub use mux_words::{ServicePair, mux_inputs};
-pub use sought::Sought;
-pub use table_reader::TableReader;
 pub use take::take_top;
 pub use take_fault::TakeFault;
 pub use take_words::take_inputs;

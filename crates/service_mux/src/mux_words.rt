@@ -1,11 +1,12 @@
 ghost use Rattle.std.specs.Prelude.{◌≡◌, ◌+◌, ◌<◌, ◌≤◌, IfSome, length};
 ghost use Rattle.service_mux.specs.MuxWords.{AreServices, are_apart as are_services_apart, is_letter as is_small_letter, language_of as language_of_word, mux_places, mux_words, service_from};
 ghost use Rattle.command_words.specs.Words.{page_of, pid_of, word_at};
-ghost use Rattle.sub_base.specs.Number.{number_in as number_in_of};
+ghost use Rattle.service_mux.specs.TakeWords.{service_of as service_of_word};
 
+use crate::take_words::service_of;
 use command_words::{InputPlaces, are_plain, has_word, no_files, page_in, pid_in};
 use psi_tables::Service;
-use sub_base::{Words, number_in};
+use sub_base::Words;
 
 /// The services of two streams that are joined to one.
 #[derive(Clone, Copy, Debug)]
@@ -77,10 +78,10 @@ fn service_at(words: &Words, place: usize) -> Option<Service>
 
 fn number_at(words: &Words, place: usize) -> Option<u16>
     requires { place < length words.now }
-    ensures number { result ≡ number_in_of 1 65535 (word_at words.now place) }
+    ensures number { result ≡ service_of_word (word_at words.now place) }
     ensures range { IfSome result (λ number. (1 ≤ number) × (number ≤ 65535)) }
 {
-    Some(number_in(words.word(place).as_bytes(), 1, 65_535)? as u16)
+    service_of(words.word(place))
 }
 
 fn pid_at(words: &Words, place: usize) -> Option<u16>

@@ -1,4 +1,4 @@
-ghost use Rattle.std.specs.Prelude.{◌≡◌};
+ghost use Rattle.std.specs.Prelude.{◌≡◌, ◌≤◌, IfSome};
 ghost use Rattle.service_mux.specs.TakeWords.{service_of, take_places, take_words as service_in};
 
 use command_words::{InputPlaces, are_plain, has_word, no_files};
@@ -18,8 +18,9 @@ pub fn take_words(words: &Words) -> Option<u16>
 }
 
 /// The number of a service that a word is, 1 to 65,535.
-pub fn service_of(word: &str) -> Option<u16>
-    ensures { result ≡ service_of word.now }
+pub(crate) fn service_of(word: &str) -> Option<u16>
+    ensures number { result ≡ service_of word.now }
+    ensures range { IfSome result (λ number. (1 ≤ number) × (number ≤ 65535)) }
 {
     Some(number_in(word.as_bytes(), 1, GREATEST_SERVICE)? as u16)
 }

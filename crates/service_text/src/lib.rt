@@ -8,6 +8,4 @@ mod list;
 mod service;
 mod teller;
 
-pub use list::ServiceList;
-pub use service::SubtitleService;
 pub use teller::PidTeller;

@@ -1,5 +1,5 @@
 -- What the segments of display sets define (EN 300 743, clause 7.2), and which definitions say something else under the
--- version that the last one before them had.
+-- version that the last one before them had: of what is said, the bytes behind that of the version are compared.
 use Rattle.std.specs.Prelude.{ℕ, ◌+◌, ◌/◌, ◌%◌, ◌==◌, ◌&&◌, Bool, false, not, if◌then◌else◌, List, [], ◌∷◌, ◌++◌, length, drop, codes, Option, Some, None}
 use Rattle.std.specs.List.{list_any}
 use Rattle.command_text.specs.Lines.{line_end, then_number, two_hex}
@@ -21,6 +21,7 @@ said_behind place bytes = record {
   check = crc_of (drop (place + 1) bytes);
 }
 
+-- the definition of that kind, id and number whose version stands in the byte of that place
 abbrev pub defines : ℕ → ℕ → ℕ → ℕ → List ℕ → Definition
 defines kind id name place bytes =
     record { kind = kind; id = id; name = name; said = said_behind place bytes }
@@ -53,6 +54,7 @@ definitions_in (segment ∷ segments) = then_others (definition_of segment) (def
 abbrev pub is_mode_change : List ℕ → Bool
 is_mode_change bytes = (byte_at 1 bytes == PAGE_COMPOSITION) && (byte_at 7 bytes / 4 % 4 == 2)
 
+-- one of these segments is a page of the state mode change
 abbrev pub begins_epoch : List (List ℕ) → Bool
 begins_epoch segments = list_any is_mode_change segments
 
@@ -72,7 +74,9 @@ abbrev pub last_said : ℕ → List Definition → Option Said
 last_said name earlier =
     first_given (λ (one : Definition). if one.name == name then Some one.said else None) earlier
 
--- it says something else under the same version
+-- the bytes behind that of the version differ in number or in CRC, under the same version. What stands beside the
+-- version in its byte (the state of a page, the fill flag of a region, the flags of an object or a display), and the
+-- time-out of a page before it, is not compared
 abbrev pub says_else : Said → Option Said → Bool
 says_else said None = false
 says_else said (Some last) =

@@ -25,6 +25,7 @@ never_told = record { stamp = 0; said = record { version = 0; size = 0; check = 
 abbrev pub said_by : ℕ → Told → Option Said
 said_by stamp one = if one.stamp == stamp then Some one.said else None
 
+-- what the last definition of a thing in the epoch that goes on says, where there is one
 abbrev pub said_at : Knowledge → ℕ → Option Said
 said_at known name = said_by known.stamp (slice_index_or known.told name never_told)
 

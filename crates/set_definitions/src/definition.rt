@@ -14,7 +14,7 @@ use stream_syntax::{
 /// How many things sets can define: a page, a display, 256 regions, 256 CLUTs, and 65,536 objects.
 pub const NAMES: usize = 66_050;
 
-/// What a definition says.
+/// What is compared of what a definition says, and its version.
 #[derive(Clone, Copy)]
 pub struct Said {
     /// Its version, 0 to 15.
@@ -114,7 +114,9 @@ fn word_at(bytes: &[u8], place: usize) -> u16
     u16::from(byte_at(bytes, place)) * 256 + u16::from(byte_at(bytes, place + 1))
 }
 
-/// Whether a definition says something else than the last one before it, under its version.
+/// Whether a definition says something else than the last one before it, under its version: the
+/// bytes behind that of the version differ in number or in CRC. What stands beside the version in
+/// its byte, and the time-out of a page before it, is not compared.
 pub fn says_else(said: Said, last: Option<Said>) -> bool
     ensures { result ≡ says_else_of said last }
 {

@@ -52,11 +52,11 @@ impl Model for SetReader {
 }
 
 impl SetReader {
-    ghost use Rattle.std.specs.Prelude.{◌≡◌, ◌<◌, ◌≤◌, ◌^◌, ℕ, Bool, true, false};
+    ghost use Rattle.std.specs.Prelude.{◌≡◌, ◌<◌, ◌≤◌, ◌^◌, ◌==◌, ◌↔◌, ℕ, Bool, true, false};
     ghost use Rattle.std.specs.Prelude.{List, [], ◌∷◌, ◌++◌, length, None, Some, option_map};
     ghost use Rattle.std.specs.Prelude.{IfErr, IfOk, IsTrue, MatchResult, OnOk};
     ghost use Rattle.std.specs.Option.{ForSome};
-    ghost use Rattle.stream_syntax.specs.TransportPackets.{packet_fault};
+    ghost use Rattle.stream_syntax.specs.TransportPackets.{packet_fault, pid_of};
     ghost use Rattle.stream_syntax.specs.Units.{event_at};
     ghost use Rattle.stream_syntax.specs.declared.wire.TheConstants.{PAYLOAD_LENGTH};
     ghost use Rattle.decoder_model.specs.PacketArrivals.{packet_arrival};
@@ -125,7 +125,8 @@ impl SetReader {
     /// it.
     #[inline(always)]
     pub fn is_other(&self, packet: &[u8; 188]) -> bool
-        ensures taken { IsTrue result → packet_fault self.now.demux.pid packet.now ≡ None }
+        ensures other { IsTrue result ↔ (packet_fault self.now.demux.pid packet.now ≡ None)
+            × ((pid_of packet.now == self.now.demux.pid) ≡ false) }
         ensures stands { IsTrue result
             → (fed : List (List ℕ)) (given : List (Delivery (List ℕ)))
             → IsReaderOf false fed given self.now

@@ -37,12 +37,12 @@ impl Model for SetReceiver {
 }
 
 impl SetReceiver {
-    ghost use Rattle.std.specs.Prelude.{◌≡◌, ◌<◌, ◌≤◌, ◌^◌, ℕ, Bool, true, false};
+    ghost use Rattle.std.specs.Prelude.{◌≡◌, ◌<◌, ◌≤◌, ◌^◌, ◌==◌, ◌↔◌, ℕ, Bool, true, false};
     ghost use Rattle.std.specs.Prelude.{List, [], ◌∷◌, ◌++◌, length, reverse};
     ghost use Rattle.std.specs.Option.{ForSome};
     ghost use Rattle.std.specs.Prelude.{None, Some, option_and_then, option_map};
     ghost use Rattle.std.specs.Prelude.{IfErr, IfOk, IfSome, IsSome, IsTrue, MatchResult, OnOk};
-    ghost use Rattle.stream_syntax.specs.TransportPackets.{packet_fault};
+    ghost use Rattle.stream_syntax.specs.TransportPackets.{packet_fault, pid_of};
     ghost use Rattle.stream_syntax.specs.Units.{event_at};
     ghost use Rattle.stream_syntax.specs.declared.wire.TheConstants.{PAYLOAD_LENGTH};
     ghost use Rattle.decoder_model.specs.Kept.{last_time, lifted_behind, lifted_time, time_of};
@@ -196,7 +196,8 @@ impl SetReceiver {
     /// it.
     #[inline(always)]
     pub fn is_other(&self, packet: &[u8; 188]) -> bool
-        ensures taken { IsTrue result → packet_fault (reception self.now).pid packet.now ≡ None }
+        ensures other { IsTrue result ↔ (packet_fault (reception self.now).pid packet.now ≡ None)
+            × ((pid_of packet.now == (reception self.now).pid) ≡ false) }
         ensures stands { IsTrue result
             → (fed : List (List ℕ)) (given : List (Delivery (List ℕ)))
             → HasBeenFed false fed given self.now

@@ -3,7 +3,8 @@ use Rattle.std.specs.Prelude.{◌≡◌, ℕ, ◌<◌, Bool, true, false, List, 
 use Rattle.stream_syntax.specs.TransportPackets.{packet_fault}
 use Rattle.stream_syntax.specs.declared.transport.PacketFault.{PacketFault}
 use Rattle.ts_packets.specs.Demuxing.{HasDemuxed}
-use Rattle.pid_text.specs.PidUnits.{UNIT_LIMIT, subtitles_of, watched}
+use Rattle.sub_base.specs.declared.profile.TheConstants.{LARGEST_BUFFER}
+use Rattle.pid_text.specs.PidUnits.{subtitles_of, watched}
 use Rattle.pid_text.specs.Private.Tallying.{HasTallied}
 use Rattle.pid_text.specs.declared.watch.Slot.{Slot}
 use Rattle.pid_text.specs.declared.watch.Watch.{Watch}
@@ -11,7 +12,7 @@ use Rattle.pid_text.specs.declared.watch.Watch.{Watch}
 -- these packets of a PID were taken
 pub record IsWatch (pid : ℕ) (packets : List (List ℕ)) (watch : Watch) : Type 0 where
   pub pid_is : watch.demux.pid ≡ pid
-  pub size_is : watch.demux.size ≡ UNIT_LIMIT
+  pub size_is : watch.demux.size ≡ LARGEST_BUFFER
   pub stands : HasDemuxed watch.demux packets
   pub tallied : HasTallied (subtitles_of pid packets) watch.tally
 
