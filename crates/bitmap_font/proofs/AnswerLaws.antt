@@ -18,7 +18,7 @@ apart_or_same : (a b : ℕ) → (a < b) ⊎ ((b < a) ⊎ (a ≡ b))
 apart_or_same a b = grind arith
 
 right_or_wrong : (found : Option FontKind) (kind : FontKind) → found ≡ None → found ≡ Some kind → ⊥
-right_or_wrong found kind right wrong = let bad : None ≡ Some kind = sym right ∙ wrong in cc
+right_or_wrong found kind valid wrong = let bad : None ≡ Some kind = sym valid ∙ wrong in cc
 
 open_or_ended : (ended : Bool) → ended ≡ false → ended ≡ true → ⊥
 open_or_ended ended is_open is_end = let bad : false ≡ true = sym is_open ∙ is_end in cc
@@ -26,8 +26,8 @@ open_or_ended ended is_open is_end = let bad : false ≡ true = sym is_open ∙ 
 -- no line before is wrong, and none is where the lines have no end
 not_before : (all : List Line) (n before : ℕ) (kind : FontKind) → AreValid all n → before < n →
     fault_of (lines_before all before) (line_at all before) ≡ Some kind → ⊥
-not_before all n before kind right less wrong =
-    right_or_wrong (fault_of (lines_before all before) (line_at all before)) kind (right.right before less) wrong
+not_before all n before kind valid less wrong =
+    right_or_wrong (fault_of (lines_before all before) (line_at all before)) kind (valid.valid before less) wrong
 
 -- bytes are not both a font and faulty
 pub font_or_fault : (bytes : List ℕ) (font : FontValue) (line : ℕ) (kind : FontKind) → IsFont bytes font
@@ -36,14 +36,14 @@ font_or_fault bytes font line kind is bad =
     let all = font_lines bytes in
     elim (apart_or_same is.last bad.before) [
       | inl less ↦ open_or_ended (ends_font (lines_before all is.last) (line_at all is.last))
-          (bad.right.open_end is.last less) is.end
+          (bad.valid.open_end is.last less) is.end
       | inr (inl more) ↦ elim bad.wrong [
         | inl wrong ↦ not_before all is.last bad.before kind is.before more wrong.1
         | inr none ↦ absurd (omega (arith, is.there, none.0))
       ]
       | inr (inr same) ↦ elim bad.wrong [
         | inl wrong ↦ right_or_wrong (fault_of (lines_before all bad.before) (line_at all bad.before)) kind
-            (ap (λ (n : ℕ). fault_of (lines_before all n) (line_at all n)) (sym same) ∙ is.right) wrong.1
+            (ap (λ (n : ℕ). fault_of (lines_before all n) (line_at all n)) (sym same) ∙ is.valid) wrong.1
         | inr none ↦ absurd (omega (arith, is.there, none.0, same))
       ]
     ]
@@ -84,12 +84,12 @@ one_refusal bytes line other a b first second =
     let all = font_lines bytes in
     elim (apart_or_same first.before second.before) [
       | inl less ↦ absurd (elim first.wrong [
-        | inl wrong ↦ not_before all second.before first.before a second.right less wrong.1
-        | inr none ↦ absurd (omega (arith, second.right.there, none.0))
+        | inl wrong ↦ not_before all second.before first.before a second.valid less wrong.1
+        | inr none ↦ absurd (omega (arith, second.valid.there, none.0))
       ])
       | inr (inl more) ↦ absurd (elim second.wrong [
-        | inl wrong ↦ not_before all first.before second.before b first.right more wrong.1
-        | inr none ↦ absurd (omega (arith, first.right.there, none.0))
+        | inl wrong ↦ not_before all first.before second.before b first.valid more wrong.1
+        | inr none ↦ absurd (omega (arith, first.valid.there, none.0))
       ])
       | inr (inr same) ↦ (
         omega (arith, first.number, second.number),

@@ -109,17 +109,17 @@ fault-before (last ∷ earlier) line some = refl
 AreValid-more : (all : List Line) (n : ℕ) → n < length all → AreValid all n
     → fault_of (lines_before all n) (line_at all n) ≡ None →
     ends_font (lines_before all n) (line_at all n) ≡ false → AreValid all (n + 1)
-AreValid-more all n inside right now open_end = record {
+AreValid-more all n inside valid now open_end = record {
   there = omega arith;
-  right = below_more (λ k. fault_of (lines_before all k) (line_at all k) ≡ None) n right.right now;
-  open_end = below_more (λ k. ends_font (lines_before all k) (line_at all k) ≡ false) n right.open_end open_end;
+  valid = below_more (λ k. fault_of (lines_before all k) (line_at all k) ≡ None) n valid.valid now;
+  open_end = below_more (λ k. ends_font (lines_before all k) (line_at all k) ≡ false) n valid.open_end open_end;
 }
 
 -- The first line.
 
-first_right : (keyword : Keyword) (text : List ℕ) → keyword ≡ StartFont
+first_valid : (keyword : Keyword) (text : List ℕ) → keyword ≡ StartFont
     → fault_of [] (record { keyword = keyword; text = text }) ≡ None
-first_right keyword text e = rw e refl
+first_valid keyword text e = rw e refl
 
 first_open : (keyword : Keyword) (text : List ℕ) → keyword ≡ StartFont
     → ends_font [] (record { keyword = keyword; text = text }) ≡ false
@@ -147,7 +147,7 @@ first_wrong Other text e = refl
 -- the first n lines were read
 pub record HasRead (bytes : List ℕ) (n : ℕ) (left : List (List ℕ)) (reader : Reader) : Type 0 where
   pub lines_left : left ≡ drop n (lines bytes)
-  pub right : AreValid (font_lines bytes) n
+  pub valid : AreValid (font_lines bytes) n
   pub is_reader : IsReader reader
   pub first : n ≡ 0 → past_of reader ≡ first_past
   pub later : 1 ≤ n → past_of reader ≡ looking_back (lines_before (font_lines bytes) n)
@@ -156,10 +156,10 @@ pub HasRead-none : (bytes : List ℕ) (reader : Reader) → IsReader reader → 
     → HasRead bytes 0 (lines bytes) reader
 HasRead-none bytes reader is_reader first = record {
   lines_left = refl;
-  right =
+  valid =
       record {
         there = omega arith;
-        right = λ k below. absurd (omega arith);
+        valid = λ k below. absurd (omega arith);
         open_end = λ k below. absurd
             (omega arith);
       };
@@ -225,9 +225,9 @@ module _ (bytes : List ℕ) (n : ℕ) (left rest : List (List ℕ)) (text : List
   pub HasRead-first : n ≡ 0 → keyword_of text ≡ StartFont → HasRead bytes (n + 1) rest reader
   HasRead-first none keyword = record {
     lines_left = sym at.2;
-    right = AreValid-more all n inside before.right
+    valid = AreValid-more all n inside before.valid
         (ap (λ (lines_so_far : List Line). fault_of lines_so_far (line_at all n)) (none_before none)
-        ∙ ap (fault_of []) this ∙ first_right (keyword_of text) text keyword)
+        ∙ ap (fault_of []) this ∙ first_valid (keyword_of text) text keyword)
         (ap (λ (lines_so_far : List Line). ends_font lines_so_far (line_at all n)) (none_before none)
         ∙ ap (ends_font []) this ∙ first_open (keyword_of text) text keyword);
     is_reader = before.is_reader;
@@ -245,7 +245,7 @@ module _ (bytes : List ℕ) (n : ℕ) (left rest : List (List ℕ)) (text : List
       ap (λ (past : Past). fault_by past (line_of text)) (sym was) ∙ ok in
       record {
         lines_left = sym at.2;
-        right = AreValid-more all n inside before.right (same_fault later ∙ ok) (same_end later ∙ open_end);
+        valid = AreValid-more all n inside before.valid (same_fault later ∙ ok) (same_end later ∙ open_end);
         is_reader = is_new;
         first = λ none. absurd (omega arith);
         later =
@@ -259,7 +259,7 @@ module _ (bytes : List ℕ) (n : ℕ) (left rest : List (List ℕ)) (text : List
   IsRefused-line later kind wrong = record {
     before = n;
     number = refl;
-    right = before.right;
+    valid = before.valid;
     wrong = inl (inside, same_fault later ∙ wrong);
   }
 
@@ -268,7 +268,7 @@ module _ (bytes : List ℕ) (n : ℕ) (left rest : List (List ℕ)) (text : List
   IsRefused-first none keyword = record {
     before = n;
     number = refl;
-    right = before.right;
+    valid = before.valid;
     wrong =
         inl (
           inside,
@@ -293,8 +293,8 @@ module _ (bytes : List ℕ) (n : ℕ) (left rest : List (List ℕ)) (text : List
         λ font is_font. record {
           last = n;
           there = inside;
-          before = before.right;
-          right = same_fault later ∙ ok;
+          before = before.valid;
+          valid = same_fault later ∙ ok;
           end = same_end later ∙ end;
           lists =
               lists_font (counted (lines_before all n)) new font new.bounds refl bounds given
@@ -308,7 +308,7 @@ pub IsRefused-all : (bytes : List ℕ) (n : ℕ) (left : List (List ℕ)) (reade
 IsRefused-all bytes n left reader before none = record {
   before = n;
   number = refl;
-  right = before.right;
+  valid = before.valid;
   wrong = inr (whole, refl);
 }
   where
@@ -320,5 +320,5 @@ IsRefused-all bytes n left reader before none = record {
           ap length (sym before.lines_left ∙ none),
           length-font_lines
               bytes,
-          before.right.there,
+          before.valid.there,
         )

@@ -1,11 +1,23 @@
-use Rattle.std.proofs.Common.{zero, suc, ◌-◌, subst, inl, inr, length, find, slice_get, if◌then◌else◌, length-append, eq-eqb, ◌≡◌, ◌==◌, ◌∙◌, refl, sym, ap, ℕ, ◌+◌, ◌*◌, ◌<◌, ◌≤◌, min, ℤ, pos, negsuc, neg_ℤ, ◌≤ℤ◌, Bool, true, false, List, [], ◌∷◌, ◌++◌, Option, Some, None, option_map, option_and_then, append_assoc, nat_abs, slice_index, arith}
+use Rattle.std.proofs.Common.{zero, suc, ◌-◌, subst, inl, inr, length, find, slice_get, if◌then◌else◌, length-append, eq-eqb, ◌≡◌, ◌==◌, ◌∙◌, refl, sym, ap, ℕ, ◌+◌, ◌*◌, ◌<◌, ◌≤◌, min, ℤ, pos, negsuc, neg_ℤ, ◌≤ℤ◌, Bool, true, false, List, [], ◌∷◌, ◌++◌, Option, Some, None, option_map, option_and_then, append_assoc, nat_abs, slice_index, take, get_or, arith}
 use Rattle.std.specs.Option.{unwrap_or}
 use Rattle.std.proofs.lemmas.Int.{ints}
 use Rattle.std.proofs.lemmas.List.FromFn.{map-range_with_len_more, length-map-range_with_len}
 use Rattle.std.proofs.lemmas.Bool.Decides.{eqb_tells}
+use Rattle.std.proofs.lemmas.List.{take_more}
+use Rattle.sub_base.specs.Number.{value_from}
 use Rattle.bitmap_font.specs.Font.{GlyphValue, Indexes}
-use Rattle.bitmap_font.specs.Words.{within, capped, number_within}
+use Rattle.bitmap_font.specs.Words.{value_of, within, capped, number_within}
 use Rattle.bitmap_font.specs.Values.{bytes_from, box_of, digit_of}
+
+value_more : (before : ℕ) (digits : List ℕ) (digit : ℕ)
+    → value_from before (digits ++ digit ∷ []) ≡ 10 * value_from before digits + (digit - 48)
+value_more before [] digit = refl
+value_more before (first ∷ digits) digit = value_more (10 * before + (first - 48)) digits digit
+
+-- the number that the first digits spell, with one digit more
+pub value_taken : (text : List ℕ) (i : ℕ) → i < length text
+    → value_of (take (i + 1) text) ≡ 10 * value_of (take i text) + (get_or text i 0 - 48)
+value_taken text i inside = ap value_of (take_more text i 0 inside) ∙ value_more 0 (take i text) (get_or text i 0)
 
 within_none : (low high z : ℤ) → (low ≤ℤ z → z ≤ℤ high → ⊥) → within low high z ≡ None
 within_none low high z outside = grind (arith, ints)

@@ -40,6 +40,8 @@ pub record IsOffset (offset : ℤ) : Type 0 where
   pub low : neg_ℤ (pos 256) ≤ℤ offset
   pub high : offset ≤ℤ pos 256
 
+-- what is true of each glyph: it moves the pen by at most 255 pixels, its sides have at most 256, its offsets are in
+-- range, and all its rows are there
 pub record IsGlyph (glyph : GlyphValue) : Type 0 where
   pub advance : glyph.advance < 256
   pub width : glyph.width ≤ 256
@@ -67,6 +69,7 @@ font_with bounds glyphs = record {
   glyphs = glyphs;
 }
 
+-- what is true of each font: the sides of its box have 1 to 256 pixels, and its offsets are in range
 pub record IsFontValue (font : FontValue) : Type 0 where
   pub wide : (1 ≤ font.width) × (font.width ≤ 256)
   pub high : (1 ≤ font.height) × (font.height ≤ 256)

@@ -18,20 +18,22 @@ fault_of (last ∷ earlier) line = fault_by (looking_back (last ∷ earlier)) li
 abbrev pub ends_font : List Line → Line → Bool
 ends_font before line = ends_by (looking_back before) line
 
--- the lines of a file, and those before one of them, nearest first
+-- the lines of a file
 abbrev pub font_lines : List ℕ → List Line
 font_lines bytes = map line_of (lines bytes)
 
+-- the first n lines, nearest first
 abbrev pub lines_before : List Line → ℕ → List Line
 lines_before all n = reverse (take n all)
 
+-- the line behind the first n
 abbrev pub line_at : List Line → ℕ → Line
 line_at all n = slice_index_or all n (line_of [])
 
 -- the first n lines are valid, and none of them ends the font
 pub record AreValid (all : List Line) (n : ℕ) : Type 0 where
   pub there : n ≤ length all
-  pub right : (k : ℕ) → k < n → fault_of (lines_before all k) (line_at all k) ≡ None
+  pub valid : (k : ℕ) → k < n → fault_of (lines_before all k) (line_at all k) ≡ None
   pub open_end : (k : ℕ) → k < n → ends_font (lines_before all k) (line_at all k) ≡ false
 
 -- the font that valid lines list
@@ -45,7 +47,7 @@ pub record IsFont (bytes : List ℕ) (font : FontValue) : Type 0 where
   pub last : ℕ
   pub there : last < length (font_lines bytes)
   pub before : AreValid (font_lines bytes) last
-  pub right : fault_of (lines_before (font_lines bytes) last) (line_at (font_lines bytes) last) ≡ None
+  pub valid : fault_of (lines_before (font_lines bytes) last) (line_at (font_lines bytes) last) ≡ None
   pub end : ends_font (lines_before (font_lines bytes) last) (line_at (font_lines bytes) last) ≡ true
   pub lists : ListsFont (counted (lines_before (font_lines bytes) last)) font
 
@@ -53,7 +55,7 @@ pub record IsFont (bytes : List ℕ) (font : FontValue) : Type 0 where
 pub record IsRefusedLine (bytes : List ℕ) (line : ℕ) (kind : FontKind) : Type 0 where
   pub before : ℕ
   pub number : line ≡ before + 1
-  pub right : AreValid (font_lines bytes) before
+  pub valid : AreValid (font_lines bytes) before
   pub wrong : ((before < length (font_lines bytes))
       × (fault_of (lines_before (font_lines bytes) before) (line_at (font_lines bytes) before) ≡ Some kind))
       ⊎ ((before ≡ length (font_lines bytes)) × (kind ≡ Truncated))

@@ -32,11 +32,12 @@ advance_of_words line_words = option_map nat_abs (number_within line_words 1 (po
 abbrev pub is_scalar : ℕ → Bool
 is_scalar number = nat_lt number 55296 || (nat_le 57344 number && nat_lt number 1114112)
 
--- a character, or none for -1
+-- the character of a number, or none for -1
 abbrev pub encoding_from : ℤ → Option (Option ℕ)
 encoding_from (pos number) = if is_scalar number then Some (Some number) else None
 encoding_from (negsuc _) = Some None
 
+-- what the words of a line say of a glyph's encoding: a character, or none for -1
 abbrev pub encoding_of : List (List ℕ) → Option (Option ℕ)
 encoding_of line_words = option_and_then encoding_from (number_within line_words 1 (negsuc 0) (pos 1114111))
 
@@ -59,5 +60,6 @@ bytes_from line n =
     + unwrap_or (digit_of (slice_index line (2 * k + 1))) 0)
     (range_with_len 0 n)
 
+-- the bytes of a row of a bitmap of that width
 abbrev pub bytes_of_row : ℕ → List ℕ → List ℕ
 bytes_of_row width line = bytes_from line (row_bytes width)

@@ -1,6 +1,7 @@
 -- The words of a line, what its first one means, and the numbers that words spell.
-use Rattle.std.specs.Prelude.{◌==◌, ◌&&◌, if◌then◌else◌, ℕ, ◌+◌, ◌-◌, ◌*◌, ℤ, pos, neg_ℤ, Bool, List, [], ◌∷◌, length, Option, Some, None, filter, fold, min, negsuc, nat_le, nat_lt, int_le, slice_get, slice_index_or, option_and_then, codes, bytes_eq}
+use Rattle.std.specs.Prelude.{◌==◌, ◌&&◌, if◌then◌else◌, ℕ, ◌+◌, ℤ, pos, neg_ℤ, Bool, List, [], ◌∷◌, length, Option, Some, None, filter, min, negsuc, nat_lt, int_le, slice_get, slice_index_or, option_and_then, codes, bytes_eq}
 use Rattle.std.specs.List.{slice_split, list_all}
+use Rattle.sub_base.specs.Number.{is_digit, value_from}
 use Rattle.bitmap_font.specs.declared.keyword.Keyword.{Keyword}
 use Rattle.bitmap_font.specs.declared.keyword.Keyword.TheVariants.{StartFont, FontBoundingBox, StartProperties, EndProperties, StartChar, Encoding, Dwidth, Bbx, Bitmap, EndChar, EndFont, Other}
 
@@ -24,16 +25,13 @@ keyword_of_word word =
     else if bytes_eq word (codes "ENDFONT") then EndFont
     else Other
 
+-- the meaning of a line's first word, or of no word where the line has none
 abbrev pub keyword_of : List ℕ → Keyword
 keyword_of line = keyword_of_word (slice_index_or (words line) 0 [])
 
--- a decimal digit
-abbrev pub is_digit : ℕ → Bool
-is_digit byte = nat_le 48 byte && nat_le byte 57
-
 -- the number that decimal digits spell
 abbrev pub value_of : List ℕ → ℕ
-value_of digits = fold (λ number digit. number * 10 + (digit - 48)) 0 digits
+value_of digits = value_from 0 digits
 
 -- one or more digits
 abbrev pub are_digits : List ℕ → Bool
@@ -46,10 +44,11 @@ number_of (byte ∷ rest) =
     if byte == 45 then (if are_digits rest then Some (neg_ℤ (pos (value_of rest))) else None)
     else (if are_digits (byte ∷ rest) then Some (pos (value_of (byte ∷ rest))) else None)
 
--- the number of the word at a place after the first, where it lies between two bounds
+-- a number, where it lies between two bounds
 abbrev pub within : ℤ → ℤ → ℤ → Option ℤ
 within low high number = if int_le low number && int_le number high then Some number else None
 
+-- the number of the word at a place, where it lies between two bounds
 abbrev pub number_within : List (List ℕ) → ℕ → ℤ → ℤ → Option ℤ
 number_within line_words place low high =
     option_and_then (within low high) (option_and_then number_of (slice_get line_words place))

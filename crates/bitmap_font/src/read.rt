@@ -51,7 +51,7 @@ fn read_lines(alloc: Global, bytes: &[u8]) -> Result<Font, FontFault>
             match reader.take(text) {
                 Ok(false) => {}
                 Ok(true) => return finished(reader),
-                Err(LineFault::OutOfMemory) => return Err(FontFault::Memory),
+                Err(LineFault::Memory) => return Err(FontFault::Memory),
                 Err(LineFault::Wrong(kind)) => return refusal(number, kind),
             }
         }

@@ -64,7 +64,7 @@ impl Reader {
     pub(crate) fn take(&mut self, text: &[u8]) -> Result<bool, LineFault>
         requires { IsReader self.old }
         ensures reader { OnOk result (IsReader self.new) }
-        ensures right { OnOk result (fault_by (past_of self.old) (line_of text.now) ≡ None) }
+        ensures valid { OnOk result (fault_by (past_of self.old) (line_of text.now) ≡ None) }
         ensures next { OnOk result
             (past_of self.new ≡ step (past_of self.old) (line_of text.now)) }
         ensures end { IfOk result
@@ -315,7 +315,7 @@ impl Reader {
         requires reader { IsReader self.old }
         requires due { is_row_due (past_of self.old).glyph ≡ true }
         ensures reader { OnOk result (IsReader self.new) }
-        ensures right { OnOk result
+        ensures valid { OnOk result
             (row_fault (past_of self.old).glyph (record { keyword = keyword; text = text.now })
             ≡ None) }
         ensures next { OnOk result
@@ -358,7 +358,7 @@ impl Draft {
         requires draft { IsDraft self }
         requires due { 0 < self.left }
         ensures draft { IfOk result IsDraft }
-        ensures right { OnOk result (is_row (width_of (draft_of self)) text.now ≡ true) }
+        ensures valid { OnOk result (is_row (width_of (draft_of self)) text.now ≡ true) }
         ensures next { IfOk result
             (λ draft. draft_of draft ≡ with_row text.now (draft_of self)) }
         ensures encoding { IfOk result (λ draft. draft.encoding ≡ self.encoding) }
@@ -406,7 +406,7 @@ fn keep(
     requires fresh { find (λ kept. kept.character == glyph.character) glyphs.old.items ≡ None }
     ensures kept { IfOk result (λ _. glyphs.new.items ≡ glyphs.old.items ++ glyph ∷ []) }
     ensures indexed { IfOk result (λ _. Indexes (get nat_cmp places.new) glyphs.new.items) }
-    ensures memory { IsOkUnless result LineFault.OutOfMemory }
+    ensures memory { IsOkUnless result LineFault.Memory }
 {
     places.insert(glyph.character(), glyphs.len())?;
     glyphs.push(glyph)?;

@@ -18,13 +18,13 @@ apart_or_same a b = grind arith
 
 -- a valid record is not faulty
 right_or_wrong : (found : Option ScriptKind) (kind : ScriptKind) → found ≡ None → found ≡ Some kind → ⊥
-right_or_wrong found kind right wrong = let bad : None ≡ Some kind = sym right ∙ wrong in cc
+right_or_wrong found kind valid wrong = let bad : None ≡ Some kind = sym valid ∙ wrong in cc
 
 not_before : (font : FontValue) (all : List Record) (n before : ℕ) (kind : ScriptKind) → AreValidRecords font all n
     → before < n →
     fault_of font (records_before all before) (record_at all before) ≡ Some kind → ⊥
-not_before font all n before kind right less wrong =
-    right_or_wrong (fault_of font (records_before all before) (record_at all before)) kind (right.right before less)
+not_before font all n before kind valid less wrong =
+    right_or_wrong (fault_of font (records_before all before) (record_at all before)) kind (valid.valid before less)
     wrong
 
 -- an epoch was started, or none
@@ -38,7 +38,7 @@ pub script_or_fault : (bytes : List ℕ) (font : FontValue) (origin width height
 script_or_fault bytes font origin width height refresh epochs pictures row kind is bad =
     let all = records_of bytes in
     elim bad.wrong [
-      | inl wrong ↦ not_before font all (length all) bad.before kind is.right wrong.0 wrong.1
+      | inl wrong ↦ not_before font all (length all) bad.before kind is.valid wrong.0 wrong.1
       | inr none ↦ some_or_none (looking_back font (records_before all (length all))).epoch is.lists.some_epoch
           (ap (λ (n : ℕ). (looking_back font (records_before all n)).epoch) (sym none.0) ∙ none.1)
     ]
@@ -54,12 +54,12 @@ one_refusal bytes font row other a b first second =
     let all = records_of bytes in
     elim (apart_or_same first.before second.before) [
       | inl less ↦ absurd (elim first.wrong [
-        | inl wrong ↦ not_before font all second.before first.before a second.right less wrong.1
-        | inr none ↦ absurd (omega (arith, second.right.there, none.0))
+        | inl wrong ↦ not_before font all second.before first.before a second.valid less wrong.1
+        | inr none ↦ absurd (omega (arith, second.valid.there, none.0))
       ])
       | inr (inl more) ↦ absurd (elim second.wrong [
-        | inl wrong ↦ not_before font all first.before second.before b first.right more wrong.1
-        | inr none ↦ absurd (omega (arith, first.right.there, none.0))
+        | inl wrong ↦ not_before font all first.before second.before b first.valid more wrong.1
+        | inr none ↦ absurd (omega (arith, first.valid.there, none.0))
       ])
       | inr (inr same) ↦ (
         omega (arith, first.number, second.number),

@@ -64,34 +64,34 @@ number-range least most cell h =
     most-of e = grind (arith, nat_tests)
 
 -- a valid epoch
-pub epoch-right : (past : ScriptPast) (start : ℕ) → epoch_fault past start ≡ None
+pub epoch-valid : (past : ScriptPast) (start : ℕ) → epoch_fault past start ≡ None
     → (starts_before start past.epoch ≡ true) × (lasts_past start past.epoch ≡ false)
     × (past.is_near start ≡ false)
 unfolding epoch_fault
-epoch-right past start h =
+epoch-valid past start h =
     let first = right (not (starts_before start past.epoch)) faults.Order _ h in
     let second = right (lasts_past start past.epoch) faults.OutsideEpoch _ first.1 in
     let third = right (past.is_near start) faults.TooClose [] second.1 in
     (not-false _ first.0, second.0, third.0)
 
 -- a valid region
-pub region-right : (past : ScriptPast) (region : Region) → region_fault past region ≡ None
+pub region-valid : (past : ScriptPast) (region : Region) → region_fault past region ≡ None
     → (is_some (region_with region.id (regions_of past.epoch)) ≡ false)
     × (lies_on past.width past.height region ≡ true)
     × (list_any (share_row region) (regions_of past.epoch) ≡ false)
 unfolding region_fault
-region-right past region h =
+region-valid past region h =
     let first = right (is_some (region_with region.id (regions_of past.epoch))) faults.DoubleRegion _ h in
     let second = right (not (lies_on past.width past.height region)) faults.RegionOutside _ first.1 in
     let third = right (list_any (share_row region) (regions_of past.epoch)) faults.RegionsMeet [] second.1 in
     (first.0, not-false _ second.0, third.0)
 
 -- a valid colour
-pub colour-right : (past : ScriptPast) (row : ColourRow) → colour_fault past row ≡ None
+pub colour-valid : (past : ScriptPast) (row : ColourRow) → colour_fault past row ≡ None
     → (nat_lt row.entry (code_count row.depth) ≡ true) × (is_early row.tick past.epoch ≡ false)
     × (past.is_near row.tick ≡ false)
 unfolding colour_fault
-colour-right past row h =
+colour-valid past row h =
     let first = right (not (nat_lt row.entry (code_count row.depth))) faults.CodeRange _ h in
     let second = right (is_early row.tick past.epoch) faults.OutsideEpoch _ first.1 in
     let third = right (past.is_near row.tick) faults.TooClose [] second.1 in
@@ -106,9 +106,9 @@ pub record IsValidSpan (past : ScriptPast) (start end : ℕ) : Type 0 where
   pub end_far : past.is_near end ≡ false
   pub apart : is_close start end ≡ false
 
-pub span-right : (past : ScriptPast) (start end : ℕ) → span_fault past start end ≡ None → IsValidSpan past start end
+pub span-valid : (past : ScriptPast) (start end : ℕ) → span_fault past start end ≡ None → IsValidSpan past start end
 unfolding span_fault
-span-right past start end h =
+span-valid past start end h =
     let first = right (is_early start past.epoch) faults.OutsideEpoch _ h in
     let second = right (nat_le end start) faults.EmptySpan _ first.1 in
     let third = right (nat_lt (start + LONGEST_CUE) end) faults.TooLong _ second.1 in
@@ -127,12 +127,12 @@ pub record IsValidPlacing (past : ScriptPast) (placing : PlaceRow) (region : Reg
 not-deeper : (a b : ℕ) → nat_lt a b ≡ false → b ≤ a
 not-deeper a b h = grind (arith, nat_tests)
 
-placed-right : (past : ScriptPast) (placing : PlaceRow) (region : Option Region) (head : Option PictureHead)
+placed-valid : (past : ScriptPast) (placing : PlaceRow) (region : Option Region) (head : Option PictureHead)
     → region_with placing.region (regions_of past.epoch) ≡ region → placed_fault past placing region head ≡ None
     → (r : Region) × (h : PictureHead) × (head ≡ Some h) × IsValidPlacing past placing r h
-placed-right past placing None head is h = absurd (let never : Some faults.NoRegion ≡ None = h in cc)
-placed-right past placing (Some region) None is h = absurd (let never : Some faults.NoPicture ≡ None = h in cc)
-placed-right past placing (Some region) (Some head) is h =
+placed-valid past placing None head is h = absurd (let never : Some faults.NoRegion ≡ None = h in cc)
+placed-valid past placing (Some region) None is h = absurd (let never : Some faults.NoPicture ≡ None = h in cc)
+placed-valid past placing (Some region) (Some head) is h =
     let first = right (nat_lt (bits_of region.depth) (bits_of head.depth)) faults.CodeRange _ h in
     let second = right (not (has_room_at region placing.x placing.y head)) faults.CueOutside _ first.1 in
     let third = passed (span_fault past placing.start placing.end) [] second.1 in (
@@ -143,25 +143,25 @@ placed-right past placing (Some region) (Some head) is h =
         found = is;
         inside = not-false _ second.0;
         shallow = not-deeper _ _ first.0;
-        span = span-right past placing.start placing.end third.0;
+        span = span-valid past placing.start placing.end third.0;
       },
     )
 
-pub place-right : (past : ScriptPast) (placing : PlaceRow) (name : List ℕ) → place_fault past placing name ≡ None
+pub place-valid : (past : ScriptPast) (placing : PlaceRow) (name : List ℕ) → place_fault past placing name ≡ None
     → (r : Region) × (h : PictureHead) × (head_at past.heads (past.named name) ≡ Some h)
     × IsValidPlacing past placing r h
 unfolding place_fault
-place-right past placing name h = placed-right past placing _ _ refl h
+place-valid past placing name h = placed-valid past placing _ _ refl h
 
-set-right : (font : FontValue) (past : ScriptPast) (placing : PlaceRow) (ink paper : ℕ) (characters : List ℕ)
+set-valid : (font : FontValue) (past : ScriptPast) (placing : PlaceRow) (ink paper : ℕ) (characters : List ℕ)
     (region : Option Region) → region_with placing.region (regions_of past.epoch) ≡ region
     → set_fault font past placing ink paper characters region ≡ None
     → (r : Region) × IsValidPlacing past placing r (text_head font r.depth characters)
     × (are_too_many past (text_head font r.depth characters) ≡ false)
 unfolding text_head
-set-right font past placing ink paper characters None is h =
+set-valid font past placing ink paper characters None is h =
     absurd (let never : Some faults.NoRegion ≡ None = h in cc)
-set-right font past placing ink paper characters (Some region) is h =
+set-valid font past placing ink paper characters (Some region) is h =
     let head = text_head font region.depth characters in
     let first =
     right (not (nat_lt ink (code_count region.depth) && nat_lt paper (code_count region.depth))) faults.CodeRange
@@ -187,15 +187,15 @@ set-right font past placing ink paper characters (Some region) is h =
         found = is;
         inside = lies;
         shallow = same;
-        span = span-right past placing.start placing.end
+        span = span-valid past placing.start placing.end
             span.0;
       },
       few.0,
     )
 
-pub cue-right : (font : FontValue) (past : ScriptPast) (placing : PlaceRow) (ink paper : ℕ) (characters : List ℕ)
+pub cue-valid : (font : FontValue) (past : ScriptPast) (placing : PlaceRow) (ink paper : ℕ) (characters : List ℕ)
     → cue_fault font past placing ink paper characters ≡ None
     → (r : Region) × IsValidPlacing past placing r (text_head font r.depth characters)
     × (are_too_many past (text_head font r.depth characters) ≡ false)
 unfolding cue_fault
-cue-right font past placing ink paper characters h = set-right font past placing ink paper characters _ refl h
+cue-valid font past placing ink paper characters h = set-valid font past placing ink paper characters _ refl h

@@ -117,8 +117,8 @@ not-none (Some x) h = refl
 pub cue-open : (font : FontValue) (past : ScriptPast) (kind : RowKind) (number : ℕ) (cells : Row)
     → fault_with font past (record { number = number; kind = kind; cells = cells }) ≡ None → kind ≡ kinds.Cue
     → is_some past.epoch ≡ true
-cue-open font past kind number cells right is =
-    let placed : is_misplaced past kind ≡ false = passes _ _ (second-none _ _ _ _ _ right) in
+cue-open font past kind number cells valid is =
+    let placed : is_misplaced past kind ≡ false = passes _ _ (second-none _ _ _ _ _ valid) in
     not-none past.epoch (ap (is_misplaced past) (sym is) ∙ placed)
 
 -- only a cue's picture depends on the regions
@@ -140,9 +140,9 @@ brings-with font first second kinds.Other cells old new same brings = brings
 
 AreValid-more : (font : FontValue) (all : List Record) (n : ℕ) → n < length all → AreValidRecords font all n
     → fault_of font (records_before all n) (record_at all n) ≡ None → AreValidRecords font all (n + 1)
-AreValid-more font all n within right now = record {
+AreValid-more font all n within valid now = record {
   there = omega arith;
-  right = below_more (λ k. fault_of font (records_before all k) (record_at all k) ≡ None) n right.right now;
+  valid = below_more (λ k. fault_of font (records_before all k) (record_at all k) ≡ None) n valid.valid now;
 }
 
 -- ---- the reader
@@ -155,7 +155,7 @@ HasRead-first bytes font kept reader none stands drawn =
     let whole : drop kept.rows (rows_of bytes) ≡ rows_of bytes = ap (λ (n : ℕ). drop n (rows_of bytes)) none in
     record {
       left_is = sym whole;
-      right = record { there = omega arith; right = λ k below. absurd (omega arith) };
+      valid = record { there = omega arith; valid = λ k below. absurd (omega arith) };
       reader = reader;
       stands = stands ∙ ap (looking_back font) (sym (start kept.rows none));
       drawn =
@@ -196,7 +196,7 @@ module _ (bytes : List ℕ) (font : FontValue) (left rest : List Row) (kept : Re
   IsRefused-row kind wrong = record {
     before = kept.rows;
     number = refl;
-    right = read.right;
+    valid = read.valid;
     wrong = inl (within, fault-is ∙ wrong);
   }
 
@@ -205,13 +205,13 @@ module _ (bytes : List ℕ) (font : FontValue) (left rest : List Row) (kept : Re
       → past_of new ≡ next_with font (past_of kept) row
       → Brings font (regions_of kept.epoch) row.kind cells kept.pictures.items new.pictures.items
       → HasRead bytes font rest new
-  HasRead-next new reader right kept_is brings =
+  HasRead-next new reader valid kept_is brings =
       let earlier = records_before all kept.rows in
       let count : new.rows ≡ kept.rows + 1 = ap (λ (past : ScriptPast). past.rows) kept_is in
       let begun : row.kind ≡ kinds.Cue → is_some (last_epoch font earlier) ≡ true =
       λ (is : row.kind ≡ kinds.Cue).
       ap (λ (past : ScriptPast). is_some past.epoch) (sym read.stands)
-      ∙ cue-open font (past_of kept) row.kind row.number row.cells right is in
+      ∙ cue-open font (past_of kept) row.kind row.number row.cells valid is in
       let more : records_before all (kept.rows + 1) ≡ row ∷ earlier =
       before-more all kept.rows within ∙ ap (λ (r : Record). r ∷ earlier) row-is in
       let epochs : kept.epoch ≡ last_epoch font earlier = ap (λ (past : ScriptPast). past.epoch) read.stands in
@@ -231,9 +231,9 @@ module _ (bytes : List ℕ) (font : FontValue) (left rest : List Row) (kept : Re
       let at_new : records_before all new.rows ≡ row ∷ earlier = ap (records_before all) count ∙ more in
       record {
         left_is = sym at.2 ∙ ap (λ (n : ℕ). drop n (rows_of bytes)) (sym count);
-        right =
+        valid =
             subst (AreValidRecords font all) (sym count)
-            (AreValid-more font all kept.rows within read.right (fault-is ∙ right));
+            (AreValid-more font all kept.rows within read.valid (fault-is ∙ valid));
         reader = reader;
         stands = stands ∙ ap (looking_back font) (sym at_new);
         drawn = subst (λ (rows : List Record). AreDrawn font rows new.pictures.items) (sym at_new) drawn;
@@ -250,7 +250,7 @@ pub all-read : (bytes : List ℕ) (font : FontValue) (left : List Row) (kept : R
     → HasRead bytes font left kept → left ≡ [] → kept.rows ≡ length (records_of bytes)
 all-read bytes font left kept read none =
     let same = length-records bytes in
-    let there = read.right.there in
+    let there = read.valid.there in
     nothing_left (rows_of bytes) kept.rows (omega arith) (sym read.left_is ∙ none) ∙ sym same
 
 -- all records are valid, and none starts an epoch
@@ -260,7 +260,7 @@ pub IsRefused-whole : (bytes : List ℕ) (font : FontValue) (left : List Row) (k
 IsRefused-whole bytes font left kept read none closed = record {
   before = kept.rows;
   number = refl;
-  right = read.right;
+  valid = read.valid;
   wrong =
       inr (
         all-read bytes font left kept read none,

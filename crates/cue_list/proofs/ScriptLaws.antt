@@ -107,18 +107,18 @@ sound-none font = record {
 
 pub sound-rows : (font : FontValue) (all : List Record) (n : ℕ) → AreValidRecords font all n
     → SoundPast (looking_back font (records_before all n)) (ticks_in (records_before all n))
-sound-rows font all zero right_rows = sound-none font
-sound-rows font all (suc n) right_rows =
-    let there = right_rows.there in
+sound-rows font all zero valid_rows = sound-none font
+sound-rows font all (suc n) valid_rows =
+    let there = valid_rows.there in
     let within : n < length all = omega arith in
     let fewer : AreValidRecords font all n =
-    record { there = omega arith; right = λ k below. right_rows.right k (omega arith) } in
+    record { there = omega arith; valid = λ k below. valid_rows.valid k (omega arith) } in
     let one : suc n ≡ n + 1 = omega arith in
     let more : records_before all (suc n) ≡ record_at all n ∷ records_before all n =
     ap (records_before all) one ∙ before-more all n within in
     subst (λ (rows : List Record). SoundPast (looking_back font rows) (ticks_in rows)) (sym more)
     (sound-row font (records_before all n) (record_at all n) (sound-rows font all n fewer)
-    (right_rows.right n (omega arith)))
+    (valid_rows.valid n (omega arith)))
 
 -- ---- pictures
 
@@ -287,7 +287,7 @@ IsSound-read bytes font left kept read some =
     let rows = records_before (records_of bytes) kept.rows in
     let sound : SoundPast (past_of kept) (ticks_in rows) =
     subst (λ (past : ScriptPast). SoundPast past (ticks_in rows)) (sym read.stands)
-    (sound-rows font (records_of bytes) kept.rows read.right) in
+    (sound-rows font (records_of bytes) kept.rows read.valid) in
     let heads : map head_of kept.pictures.items ≡ (looking_back font rows).heads =
     ap (λ (past : ScriptPast). past.heads) read.stands in
     let codes : kept.codes ≡ (looking_back font rows).codes = ap (λ (past : ScriptPast). past.codes) read.stands in
@@ -315,7 +315,7 @@ IsScript-read bytes font kept read some =
       pictures_are = read.drawn;
     } in
     record {
-      right = subst (AreValidRecords font all) count read.right;
+      valid = subst (AreValidRecords font all) count read.valid;
       lists =
           subst (λ (n : ℕ). Lists font (records_before all n) kept.origin kept.width kept.height
           (90000 * kept.seconds) (with_last kept.ended.items kept.epoch) kept.pictures.items) count lists;

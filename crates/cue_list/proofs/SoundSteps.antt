@@ -20,7 +20,7 @@ use Rattle.cue_records.specs.Rows.{Row}
 use Rattle.cue_list.specs.Sound.{IsTick}
 use Rattle.cue_list.specs.Private.State.{next_with, with_region, with_colour, with_cue}
 use Rattle.cue_list.specs.TextSizes.{text_head}
-use Rattle.cue_list.proofs.FactLaws.{IsValidRow, IsValidPlacing, number-range, epoch-right, region-right, colour-right, place-right, cue-right}
+use Rattle.cue_list.proofs.FactLaws.{IsValidRow, IsValidPlacing, number-range, epoch-valid, region-valid, colour-valid, place-valid, cue-valid}
 use Rattle.cue_records.proofs.TestLaws.{passed, both-false}
 use Rattle.cue_list.proofs.EpochLaws.{IsCueOf, epoch-region, epoch-colour, epoch-cue, region-cells, colour-row, tick-range, get-last}
 use Rattle.cue_list.proofs.PastLaws.{row_with}
@@ -194,7 +194,7 @@ pub sound-epoch : (font : FontValue) (past : ScriptPast) (ticks : List ℕ) (num
 unfolding epoch_cells
 sound-epoch font past ticks number cells sound row near =
     let three : 3 ≤ past.rows = not-less past.rows 3 row.placed in
-    let tests = epoch-right past (value_at cells 1) row.content in
+    let tests = epoch-valid past (value_at cells 1) row.content in
     let tick = tick-range past.origin (cell_at cells 1) row.cells_right in
     let far = far-from past ticks (value_at cells 1) near tests.2 in
     let room = room-epochs past.ended past.epoch row.room in
@@ -235,7 +235,7 @@ sound-region font past ticks number cells sound row =
     let region = region_in cells in
     let new_is : option_map (with_region region) past.epoch ≡ Some (with_region region epoch) =
     changed-epoch past (with_region region) epoch is in
-    let tests = region-right past region row.content in
+    let tests = region-valid past region row.content in
     let regions : regions_of past.epoch ≡ epoch.regions = ap regions_of is in
     let few : length epoch.regions < 64 =
     not-least _ _ (ap (λ (o : Option Epoch). nat_le 64 (length (regions_of o))) (sym is) ∙ row.room) in
@@ -286,7 +286,7 @@ sound-colour font past ticks number cells sound row near =
     let colour = colour_in number cells in
     let new_is : option_map (with_colour colour) past.epoch ≡ Some (with_colour colour epoch) =
     changed-epoch past (with_colour colour) epoch is in
-    let tests = colour-right past colour row.content in
+    let tests = colour-valid past colour row.content in
     let within : epoch.start ≤ colour.tick = not-less _ _ (ap (is_early colour.tick) (sym is) ∙ tests.1) in
     let far = far-from past ticks colour.tick near tests.2 in
     let old : EpochFacts past.origin past.width past.height past.heads past.ended (Some epoch) =
@@ -404,7 +404,7 @@ sound-place font past ticks number cells sound row near =
     let is : past.epoch ≡ Some epoch = open_epoch.1 in
     let cell_tests = passed (placing_cells past.origin cells) _ row.cells_right in
     let times = placing-ticks past.origin cells cell_tests.0 in
-    let tests = place-right past (placing_in cells) (cell_at cells 7) row.content in
+    let tests = place-valid past (placing_in cells) (cell_at cells 7) row.content in
     let region = tests.0 in
     let head = tests.1 in
     let placed = tests.3 in
@@ -444,7 +444,7 @@ sound-cue font past ticks number cells sound row near =
     let cell_tests = passed (placing_cells past.origin cells) _ row.cells_right in
     let times = placing-ticks past.origin cells cell_tests.0 in
     let tests =
-    cue-right font past (placing_in cells) (value_at cells 6) (value_at cells 7) (chars (cell_at cells 8))
+    cue-valid font past (placing_in cells) (value_at cells 6) (value_at cells 7) (chars (cell_at cells 8))
     row.content in
     let region = tests.0 in
     let placed = tests.1 in

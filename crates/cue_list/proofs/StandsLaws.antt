@@ -94,7 +94,7 @@ few-left text all rest cells found left is next =
 pub stands-first : (font : FontValue) (kept : Kept) → kept.past ≡ looking_back font [] → kept.pictures ≡ []
     → StandsFor font [] kept
 stands-first font kept found none = record {
-  right = record { there = omega arith; right = λ k below. absurd (omega arith) };
+  valid = record { there = omega arith; valid = λ k below. absurd (omega arith) };
   found = found;
   drawn = none;
 }
@@ -136,16 +136,16 @@ module _ (font : FontValue) (rows : List Row) (cells : Row) where
   at-last =
       ap (λ (n : ℕ). record_at new_all n) (sym long) ∙ get_or-append_seam old_all row [] (record_of 0 [])
 
-  right-more : AreValidRecords font old_all (length rows) → next_fault font rows cells ≡ None
+  valid-more : AreValidRecords font old_all (length rows) → next_fault font rows cells ≡ None
       → AreValidRecords font (numbered (rows ++ cells ∷ [])) (length (rows ++ cells ∷ []))
-  right-more old now =
+  valid-more old now =
       let count = length-more rows cells in
       let counted = length-numbered 1 (rows ++ cells ∷ []) in
       let P : ℕ → Type 0 =
       λ (k : ℕ). fault_of font (records_before new_all k) (record_at new_all k) ≡ None in
       let before : (k : ℕ) → k < length rows → P k = λ k below.
       ap (λ (rs : List Record). fault_of font rs (record_at new_all k)) (before-same k (omega arith))
-      ∙ ap (fault_of font (records_before old_all k)) (at-same k below) ∙ old.right k below in
+      ∙ ap (fault_of font (records_before old_all k)) (at-same k below) ∙ old.valid k below in
       let last : P (length rows) =
       ap (λ (rs : List Record). fault_of font rs (record_at new_all (length rows)))
       (before-same (length rows) (omega arith) ∙ before-all rows)
@@ -153,7 +153,7 @@ module _ (font : FontValue) (rows : List Row) (cells : Row) where
       let each : (k : ℕ) → k < length rows + 1 → P k = below_more P (length rows) before last in
       record {
         there = omega (arith, counted);
-        right = λ k below.
+        valid = λ k below.
             subst (λ (rs : List Record). fault_of font (records_before rs k) (record_at rs k) ≡ None)
             (sym (numbered-push rows cells)) (each k (omega (arith, count)));
       }
@@ -164,15 +164,15 @@ module _ (font : FontValue) (rows : List Row) (cells : Row) where
       → Brings font (regions_of old.past.epoch) (record_of (old.past.rows + 1) cells).kind cells old.pictures
       new.pictures
       → StandsFor font (rows ++ cells ∷ []) new
-  stands-next old new stands right kept brings =
+  stands-next old new stands valid kept brings =
       let count = rows-counted font rows old stands in
       let earlier = nearest rows in
-      let right_now : next_fault font rows cells ≡ None =
-      sym (next_fault-kept font rows cells old stands) ∙ right in
+      let valid_now : next_fault font rows cells ≡ None =
+      sym (next_fault-kept font rows cells old stands) ∙ valid in
       let begun : row.kind ≡ kinds.Cue → is_some (last_epoch font earlier) ≡ true =
       λ (is : row.kind ≡ kinds.Cue).
       ap (λ (past : ScriptPast). is_some past.epoch) (sym stands.found)
-      ∙ cue-open font old.past row.kind (old.past.rows + 1) cells right is in
+      ∙ cue-open font old.past row.kind (old.past.rows + 1) cells valid is in
       let regions : row.kind ≡ kinds.Cue → regions_of old.past.epoch ≡ regions_in earlier =
       λ (is : row.kind ≡ kinds.Cue).
       ap (λ (past : ScriptPast). regions_of past.epoch) stands.found ∙ regions-last font earlier (begun is) in
@@ -188,7 +188,7 @@ module _ (font : FontValue) (rows : List Row) (cells : Row) where
             old.pictures new.pictures regions brings,
       ) in
       record {
-        right = right-more stands.right right_now;
+        valid = valid-more stands.valid valid_now;
         found = found ∙ ap (looking_back font) (sym (nearest-push rows cells));
         drawn =
             subst (λ (rs : List Record). AreDrawn font rs new.pictures) (sym (nearest-push rows cells)) drawn;
@@ -227,9 +227,9 @@ pub takes-row : (font : FontValue) (rows : List Row) (cells : Row) (old new : Ke
     → Brings font (regions_of old.past.epoch) (record_of (old.past.rows + 1) cells).kind cells old.pictures
     new.pictures
     → StandsFor font rows old → TakesRow font rows cells new mark
-takes-row font rows cells old new mark sized marked counted right kept brings stands = record {
-  right = sym (next_fault-kept font rows cells old stands) ∙ right;
-  stands = stands-next font rows cells old new stands right kept brings;
+takes-row font rows cells old new mark sized marked counted valid kept brings stands = record {
+  valid = sym (next_fault-kept font rows cells old stands) ∙ valid;
+  stands = stands-next font rows cells old new stands valid kept brings;
   back = record {
     kept = old;
     stood = stands;
@@ -254,7 +254,7 @@ goes-back font rows now new mark back pictures past =
     let was : new.past ≡ kept.past =
     past ∙ (λ i. record (back.marked i) { heads = heads i }) in
     record {
-      right = back.stood.right;
+      valid = back.stood.valid;
       found = was ∙ back.stood.found;
       drawn = subst (AreDrawn font (nearest rows)) (sym same) back.stood.drawn;
     }
@@ -282,7 +282,7 @@ pub record IsCopy (reader copy : Reader) : Type 0 where
 
 -- a record was taken on a copy
 pub record IsTakenBy (font : FontValue) (cells : Row) (copy next : Reader) : Type 0 where
-  pub right : fault_with font (past_of copy) (record_of (copy.rows + 1) cells) ≡ None
+  pub valid : fault_with font (past_of copy) (record_of (copy.rows + 1) cells) ≡ None
   pub next_is : past_of next ≡ next_with font (past_of copy) (record_of (copy.rows + 1) cells)
   pub brings : Brings font (regions_of copy.epoch) (kind_of (cell_at cells 0)) cells copy.pictures.items
       next.pictures.items
@@ -299,7 +299,7 @@ takes-inside font rows cells reader copy next old mark seen is marked counted ta
     takes-row font rows cells (kept_of copy) (kept_of next) mark refl
     (marked ∙ ap without_heads (sym is.past))
     (counted ∙ ap (λ v. length v.items) (sym is.pictures))
-    taken.right taken.next_is taken.brings
+    taken.valid taken.next_is taken.brings
     (subst (StandsFor font rows) (sym (copy-kept reader copy old seen is)) stands)
 
 pub refused-inside : (font : FontValue) (rows : List Row) (cells : Row) (reader copy : Reader) (old : Kept)
@@ -347,7 +347,7 @@ IsSound-stands font rows kept reader stands some =
     let earlier = nearest rows in
     let sound : SoundPast (looking_back font earlier) (ticks_in earlier) =
     subst (λ (rs : List Record). SoundPast (looking_back font rs) (ticks_in rs)) (before-all rows)
-    (sound-rows font (numbered rows) (length rows) stands.right) in
+    (sound-rows font (numbered rows) (length rows) stands.valid) in
     let heads : map head_of kept.pictures.items ≡ (looking_back font earlier).heads =
     ap (λ (past : ScriptPast). past.heads) stands.found in
     let codes : kept.codes ≡ (looking_back font earlier).codes = ap (λ (past : ScriptPast). past.codes) stands.found in
@@ -403,7 +403,7 @@ IsScriptOf-stands font rows kept script stands some origin width height refresh 
       pictures_are = subst (AreDrawn font (nearest rows)) (sym pictures) stands.drawn;
     } in
     record {
-      right = subst (AreValidRecords font (numbered rows)) long stands.right;
+      valid = subst (AreValidRecords font (numbered rows)) long stands.valid;
       lists =
           subst (λ (n : ℕ). Lists font (records_before (numbered rows) n) script.origin script.width script.height
           script.refresh script.epochs script.pictures) long

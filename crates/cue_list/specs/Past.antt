@@ -48,6 +48,7 @@ number_in kind place earlier = option_map_or (λ row. value_at row.cells place) 
 
 -- ---- regions, colours and ticks
 
+-- the region that a record lists
 abbrev pub region_by : RowKind → Row → Option Region
 region_by kinds.Region cells = Some (region_in cells)
 region_by _ cells = None
@@ -56,6 +57,7 @@ region_by _ cells = None
 abbrev pub regions_in : List Record → List Region
 regions_in earlier = listed_since (λ _ row. region_by row.kind row.cells) earlier
 
+-- the colour that a record lists
 abbrev pub colour_by : RowKind → ℕ → Row → Option ColourRow
 colour_by kinds.Colour number cells = Some (colour_in number cells)
 colour_by _ number cells = None
@@ -72,6 +74,7 @@ ticks_by kinds.Place cells = value_at cells 1 ∷ value_at cells 2 ∷ []
 ticks_by kinds.Cue cells = value_at cells 1 ∷ value_at cells 2 ∷ []
 ticks_by _ cells = []
 
+-- the ticks that the records name
 abbrev pub ticks_in : List Record → List ℕ
 ticks_in earlier = flat_map (λ row. ticks_by row.kind row.cells) earlier
 
@@ -162,14 +165,17 @@ ended_epochs font (row ∷ earlier) =
 
 -- ---- all of it
 
+-- the record sets a colour
 abbrev pub is_colour_kind : RowKind → Bool
 is_colour_kind kinds.Colour = true
 is_colour_kind _ = false
 
+-- the record brings a picture with a name
 abbrev pub is_picture_kind : RowKind → Bool
 is_picture_kind kinds.Picture = true
 is_picture_kind _ = false
 
+-- the record brings a cue
 abbrev pub is_cue_kind : RowKind → Bool
 is_cue_kind kinds.Place = true
 is_cue_kind kinds.Cue = true
@@ -192,6 +198,7 @@ pub record ScriptPast : Type 0 where
   pub is_near : ℕ → Bool
   pub named : List ℕ → Option ℕ
 
+-- what looking back over these records finds
 abbrev pub looking_back : FontValue → List Record → ScriptPast
 looking_back font earlier = record {
   rows = length earlier;

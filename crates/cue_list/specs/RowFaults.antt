@@ -89,6 +89,7 @@ epoch_fault past start = first_of (
     ∷ fails (past.is_near start) faults.TooClose
     ∷ [])
 
+-- a new region: no region of the epoch has its number; then it lies on the display; then it shares no row with another
 unfoldable pub region_fault : ScriptPast → Region → Option ScriptKind
 region_fault past region = first_of (
     fails (is_some (region_with region.id (regions_of past.epoch))) faults.DoubleRegion
@@ -101,6 +102,7 @@ abbrev pub is_early : ℕ → Option Epoch → Bool
 is_early tick None = false
 is_early tick (Some epoch) = nat_lt tick epoch.start
 
+-- a colour: its depth has the entry; then the last epoch has started by its tick; then this is not too close to others
 unfoldable pub colour_fault : ScriptPast → ColourRow → Option ScriptKind
 colour_fault past row = first_of (
     fails (not (nat_lt row.entry (code_count row.depth))) faults.CodeRange
@@ -114,6 +116,7 @@ colour_fault past row = first_of (
 abbrev pub is_name : List ℕ → Bool
 is_name name = nat_le 1 (length name) && nat_le (length name) LONGEST_NAME
 
+-- a picture: its name has a length that is allowed; then its codes are as its head says; then there are not too many
 unfoldable pub picture_fault : ScriptPast → PictureHead → Row → Option ScriptKind
 picture_fault past head cells = first_of (
     fails (not (is_name (cell_at cells 1))) faults.Range
@@ -147,6 +150,7 @@ abbrev pub head_at : List PictureHead → Option ℕ → Option PictureHead
 head_at heads None = None
 head_at heads (Some place) = slice_get heads place
 
+-- a place: its region is one of the epoch; then its picture was named before; then the tests of a picture at a place
 unfoldable pub place_fault : ScriptPast → PlaceRow → List ℕ → Option ScriptKind
 place_fault past placing name =
     placed_fault past placing (region_with placing.region (regions_of past.epoch))
@@ -168,6 +172,8 @@ text_fault past placing region head = first_of (
     ∷ fails (are_too_many past head) faults.TooMany
     ∷ [])
 
+-- a text in its region, where the epoch has it: ink and paper are codes of its depth; then each character has a glyph;
+-- then the tests of a text's picture
 abbrev pub set_fault : FontValue → ScriptPast → PlaceRow → ℕ → ℕ → List ℕ → Option Region
     → Option ScriptKind
 set_fault font past placing ink paper characters None = Some faults.NoRegion
@@ -177,6 +183,7 @@ set_fault font past placing ink paper characters (Some region) = first_of (
     ∷ text_fault past placing region (text_head font region.depth characters)
     ∷ [])
 
+-- a cue: its region is one of the epoch; then the tests of a text in it
 unfoldable pub cue_fault : FontValue → ScriptPast → PlaceRow → ℕ → ℕ → List ℕ → Option ScriptKind
 cue_fault font past placing ink paper characters =
     set_fault font past placing ink paper characters (region_with placing.region (regions_of past.epoch))

@@ -1,4 +1,4 @@
--- Right scripts, and why others are refused.
+-- Valid scripts, and why others are refused.
 use Rattle.std.specs.Prelude.{◌≡◌, ◌⊎◌, ℕ, ◌+◌, ◌*◌, ◌<◌, ◌≤◌, List, [], ◌∷◌, length, true, Some, None, is_some, Result, MatchResult, ⊤}
 use Rattle.sub_base.specs.Picture.{Picture}
 use Rattle.bitmap_font.specs.Font.{FontValue}
@@ -17,7 +17,7 @@ use Rattle.sub_base.specs.declared.pace.TheConstants.{SECOND}
 -- the first n records are valid, each judged by those before it
 pub record AreValidRecords (font : FontValue) (all : List Record) (n : ℕ) : Type 0 where
   pub there : n ≤ length all
-  pub right : (k : ℕ) → k < n → fault_of font (records_before all k) (record_at all k) ≡ None
+  pub valid : (k : ℕ) → k < n → fault_of font (records_before all k) (record_at all k) ≡ None
 
 -- the pictures that records bring, in the script's order; the records are given nearest first
 abbrev pub AreDrawn : FontValue → List Record → List Picture → Type 0
@@ -40,7 +40,7 @@ pub record Lists (font : FontValue) (rows : List Record) (origin width height re
 -- the bytes are a script: all its records are valid, and they list these values
 pub record IsScript (bytes : List ℕ) (font : FontValue) (origin width height refresh : ℕ) (epochs : List Epoch)
     (pictures : List Picture) : Type 0 where
-  pub right : AreValidRecords font (records_of bytes) (length (records_of bytes))
+  pub valid : AreValidRecords font (records_of bytes) (length (records_of bytes))
   pub lists : Lists font (records_before (records_of bytes) (length (records_of bytes))) origin width height refresh
       epochs pictures
 
@@ -58,7 +58,7 @@ pub record HasValues (origin width height refresh : ℕ) (epochs : List Epoch) (
 pub record IsRefusedRecord (bytes : List ℕ) (font : FontValue) (row : ℕ) (kind : ScriptKind) : Type 0 where
   pub before : ℕ
   pub number : row ≡ before + 1
-  pub right : AreValidRecords font (records_of bytes) before
+  pub valid : AreValidRecords font (records_of bytes) before
   pub wrong : ((before < length (records_of bytes))
       × (fault_of font (records_before (records_of bytes) before) (record_at (records_of bytes) before) ≡ Some kind))
       ⊎ ((before ≡ length (records_of bytes))

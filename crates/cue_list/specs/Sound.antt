@@ -71,10 +71,11 @@ pub record IsEpoch (origin width height : ℕ) (pictures : List Picture) (epoch 
   pub colours : All (IsColourRow origin epoch.start) epoch.colours
   pub cues : All (IsCue origin epoch.start epoch.regions pictures) epoch.cues
 
--- the ticks that the records of an epoch name
+-- the ticks that the record of a cue names
 abbrev pub ticks_of_cue : Cue → List ℕ
 ticks_of_cue cue = cue.start ∷ cue.end ∷ []
 
+-- the ticks that the records of an epoch name
 abbrev pub ticks_of : Epoch → List ℕ
 ticks_of epoch = epoch.start ∷ (map (λ row. row.tick) epoch.colours ++ flat_map ticks_of_cue epoch.cues)
 

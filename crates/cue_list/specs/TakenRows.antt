@@ -27,7 +27,7 @@ next_fault font rows cells = fault_of font (nearest rows) (record_of (length row
 
 -- a script is that of these records: all of them are valid, and they list its values
 pub record IsScriptOf (font : FontValue) (records : List Record) (script : Script) : Type 0 where
-  pub right : AreValidRecords font records (length records)
+  pub valid : AreValidRecords font records (length records)
   pub lists : Lists font (records_before records (length records)) script.origin script.width script.height
       script.refresh script.epochs script.pictures
 
@@ -40,7 +40,7 @@ pub record Kept : Type 0 where
 
 -- the reader took these rows: each is valid by those before it, and what it keeps is what they say
 pub record StandsFor (font : FontValue) (rows : List Row) (kept : Kept) : Type 0 where
-  pub right : AreValidRecords font (numbered rows) (length rows)
+  pub valid : AreValidRecords font (numbered rows) (length rows)
   pub found : kept.past ≡ looking_back font (nearest rows)
   pub drawn : AreDrawn font (nearest rows) kept.pictures
 
@@ -70,6 +70,6 @@ pub record CanGoBack (font : FontValue) (rows : List Row) (now : Kept) (mark : M
 
 -- the row was taken behind the others: it is valid, the reader took it too, and can go back to where it stood without
 pub record TakesRow (font : FontValue) (rows : List Row) (cells : Row) (now : Kept) (mark : Mark) : Type 0 where
-  pub right : next_fault font rows cells ≡ None
+  pub valid : next_fault font rows cells ≡ None
   pub stands : StandsFor font (rows ++ cells ∷ []) now
   pub back : CanGoBack font rows now mark

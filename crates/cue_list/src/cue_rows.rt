@@ -138,7 +138,7 @@ impl Reader {
         requires start { cue.placing.start < 2 ^ 62 }
         requires end { cue.placing.end < 2 ^ 62 }
         requires few { self.now.codes ≤ MOST_CODES }
-        ensures right { OnOk result
+        ensures valid { OnOk result
             (cue_fault_of font.now (past_of self.now) cue.placing cue.ink cue.paper (chars text.now)
             ≡ None) }
         ensures set { IfOk result

@@ -9,7 +9,7 @@ use crate::script::Script;
 pub struct ScriptReader {
     pub(crate) kept: Reader,
     /// What is true of each reader.
-    pub(crate) ghost right: { IsReader kept },
+    pub(crate) ghost valid: { IsReader kept },
 }
 
 /// Where a reader stood before a record.
@@ -20,7 +20,7 @@ pub struct RowBefore {
     /// How many pictures there were.
     pub(crate) count: usize,
     /// What is true of it.
-    pub(crate) ghost right: { IsBefore kept count },
+    pub(crate) ghost valid: { IsBefore kept count },
 }
 
 /// The script of the records that a reader took, lent out of it: no picture is copied.
@@ -30,5 +30,5 @@ pub struct LentScript {
     /// What the reader keeps, but for the pictures.
     pub(crate) kept: Reader,
     /// What is true of it.
-    pub(crate) ghost right: { IsLent kept script.pictures },
+    pub(crate) ghost valid: { IsLent kept script.pictures },
 }

@@ -26,8 +26,8 @@ impl ScriptReader {
         ensures script { IfOk result (λ lent. (font : FontValue) (rows : List Row)
             → StandsFor font rows (seen_of self.old)
             → IsScriptOf font (numbered rows) (script_in lent)) }
-        ensures kept { IfOk result (λ lent. lent_seen lent ≡ seen_of self.old) }
-        ensures refused { OnErr result (seen_of self.new ≡ seen_of self.old) }
+        ensures lent { IfOk result (λ lent. lent_seen lent ≡ seen_of self.old) }
+        ensures kept { OnErr result (seen_of self.new ≡ seen_of self.old) }
     {
         let epochs = all_epochs(alloc, &self.kept)?;
         let kept = mem::replace(&mut self.kept, Reader::new(alloc));
@@ -44,7 +44,7 @@ fn lent_of(alloc: Global, kept: Reader, epochs: Vec<Epoch>) -> LentScript
     requires epochs { epochs.items ≡ with_last kept.ended.items kept.epoch }
     ensures script { (font : FontValue) (rows : List Row) → StandsFor font rows (kept_of kept)
         → IsScriptOf font (numbered rows) (script_in result) }
-    ensures kept { lent_seen result ≡ kept_of kept }
+    ensures lent { lent_seen result ≡ kept_of kept }
 {
     let mut kept = kept;
     let pictures = mem::replace(&mut kept.pictures, Vec::new(alloc));

@@ -45,6 +45,7 @@ pub use epoch::{Cue, Epoch};
 pub use fault::ScriptFault;
 pub use kept_rows::{LentScript, RowBefore, ScriptReader};
 pub use painting::picture_at;
+pub use row_tests::region_with;
 pub use script::{Pictures, Script};
 pub use single_rows::{OnlyRow, only_row};
 pub use tick_rows::is_tick_row;

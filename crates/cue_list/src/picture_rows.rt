@@ -31,7 +31,7 @@ impl Reader {
         requires few { self.now.codes ≤ MOST_CODES }
         requires wide { 1 ≤ head.width }
         requires high { 1 ≤ head.height }
-        ensures right { OnOk result
+        ensures valid { OnOk result
             (picture_fault_of (past_of self.now) head (fields_of row.now) ≡ None) }
         ensures drawn { IfOk result (IsPictureWith head (cell_at (fields_of row.now) 5)) }
         ensures room { OnOk result (self.now.codes + area_of_head head ≤ MOST_CODES) }
@@ -90,7 +90,7 @@ fn picture_of(alloc: Global, head: PictureHead, row: &ByteRecord) -> Result<Inde
     requires text { is_text_row (fields_of row.now) ≡ true }
     requires wide { 1 ≤ head.width }
     requires high { 1 ≤ head.height }
-    ensures right { OnOk result
+    ensures valid { OnOk result
         (pixels_fault head (cell_at (fields_of row.now) 5) ≡ None) }
     ensures drawn { IfOk result (IsPictureWith head (cell_at (fields_of row.now) 5)) }
     ensures refused { IfErr result

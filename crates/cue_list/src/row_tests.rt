@@ -209,8 +209,8 @@ fn any_from(colours: &[ColourRow], tick: u64) -> bool
     colours.iter().any(|row| tick <= row.tick)
 }
 
-/// The region of that number.
-pub(crate) fn region_with(regions: &[Region], id: u8) -> Option<Region>
+/// The first region of that number, where there is one.
+pub fn region_with(regions: &[Region], id: u8) -> Option<Region>
     ensures { result ≡ region_with_of id regions.now }
 {
     for region in regions {

@@ -24,7 +24,7 @@ impl Reader {
         requires reader { IsReader self.old }
         requires fits { self.old.rows + 1 < 2 ^ 64 }
         ensures reader { OnOk result (IsReader self.new) }
-        ensures right { OnOk result
+        ensures valid { OnOk result
             (fault_with font.now (past_of self.old)
             (record_of (self.old.rows + 1) (fields_of row.now)) ≡ None) }
         ensures next { OnOk result

@@ -32,6 +32,7 @@ fails wrong kind = if wrong then Some kind else None
 abbrev pub value_of : List ℕ → ℕ
 value_of cell = value_from 0 cell
 
+-- the number that the digits of the cell at that place make
 abbrev pub value_at : Row → ℕ → ℕ
 value_at row place = value_of (cell_at row place)
 
@@ -46,6 +47,7 @@ number_fault least most cell = first_of (
 abbrev pub is_depth : ℕ → Bool
 is_depth number = (number == 2) || (number == 4) || (number == 8)
 
+-- a cell that is a depth: it is a number; then it is one that a depth has
 unfoldable pub depth_fault : List ℕ → Option ScriptKind
 depth_fault cell = first_of (
     fails (not (is_number MOST_DIGITS cell)) faults.Number

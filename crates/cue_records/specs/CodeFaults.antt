@@ -20,6 +20,7 @@ digits_of Two = 1
 digits_of Four = 1
 digits_of Eight = 2
 
+-- a character is a hexadecimal digit
 abbrev pub is_hex : ℕ → Bool
 is_hex character = is_some (hex_value character)
 

@@ -1,6 +1,6 @@
 use crate::cell_rules::{CellRule, Range, cell_rule};
-use crate::record_word::RecordWord;
 use crate::script_facts::Case;
+use cue_records::RowKind;
 use sentence_text::{Part, Text};
 use sub_base::NoMemory;
 
@@ -56,12 +56,12 @@ fn put_range(told: &mut Text, case: &Case<'_>, rule: CellRule, place: u64) -> Re
 /// Puts what lies outside its range where each number is valid: the name of a picture, or a text.
 pub(crate) fn put_free_cell(told: &mut Text, case: &Case<'_>) -> Result<(), NoMemory> {
     match case.word {
-        RecordWord::Picture => told.say(&[
+        RowKind::Picture => told.say(&[
             Part::Words("; NAME has "),
             Part::Number(case.record.cell(1).len() as u64),
             Part::Words(" bytes"),
         ]),
-        RecordWord::Cue => told.put_words("; the text has no pixels"),
+        RowKind::Cue => told.put_words("; the text has no pixels"),
         _ => Ok(()),
     }
 }
@@ -69,8 +69,8 @@ pub(crate) fn put_free_cell(told: &mut Text, case: &Case<'_>) -> Result<(), NoMe
 /// Puts the greatest code that there may be.
 pub(crate) fn put_code_facts(told: &mut Text, case: &Case<'_>) -> Result<(), NoMemory> {
     let bits = match case.word {
-        RecordWord::Colour => case.number(3),
-        RecordWord::Picture => case.number(2),
+        RowKind::Colour => case.number(3),
+        RowKind::Picture => case.number(2),
         _ => match case.number(3) {
             Some(id) => case.region(id).map(|region| u64::from(region.depth.bits())),
             None => None,

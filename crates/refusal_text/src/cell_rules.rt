@@ -1,5 +1,5 @@
-use crate::record_word::RecordWord;
 use cue_list::{LATEST_ORIGIN, LONGEST_SCRIPT, MOST_HEIGHT, MOST_WIDTH};
+use cue_records::RowKind;
 
 /// What a cell of a record may hold, where it holds a number.
 #[derive(Clone, Copy)]
@@ -63,38 +63,38 @@ const HEIGHT: Range = Range::Between(1, MOST_HEIGHT as u64);
 
 /// What the cell at that place of a record may hold, where it holds a number. Places are counted
 /// from 0, and the first cell is the record's word.
-pub(crate) fn cell_rule(word: RecordWord, place: usize) -> Option<CellRule> {
+pub(crate) fn cell_rule(word: RowKind, place: usize) -> Option<CellRule> {
     match (word, place) {
-        (RecordWord::Origin, 1) => rule("TICK", Range::Between(0, LATEST_ORIGIN)),
-        (RecordWord::Display, 1) => rule("WIDTH", WIDTH),
-        (RecordWord::Display, 2) => rule("HEIGHT", HEIGHT),
-        (RecordWord::Refresh, 1) => rule("SECONDS", Range::Between(1, 60)),
-        (RecordWord::Epoch, 1) => rule("START", Range::Tick),
-        (RecordWord::Region, 1) => rule("ID", BYTE),
-        (RecordWord::Region, 2) => rule("X", COLUMN),
-        (RecordWord::Region, 3) => rule("Y", ROW),
-        (RecordWord::Region, 4) => rule("WIDTH", WIDTH),
-        (RecordWord::Region, 5) => rule("HEIGHT", HEIGHT),
-        (RecordWord::Region, 6) => rule("DEPTH", Range::Depth),
-        (RecordWord::Region, 7) => rule("CLUT", BYTE),
-        (RecordWord::Colour, 1) => rule("TICK", Range::Tick),
-        (RecordWord::Colour, 2) => rule("CLUT", BYTE),
-        (RecordWord::Colour, 3) => rule("DEPTH", Range::Depth),
-        (RecordWord::Colour, 4) => rule("ENTRY", BYTE),
-        (RecordWord::Colour, 5) => rule("Y", BYTE),
-        (RecordWord::Colour, 6) => rule("CR", BYTE),
-        (RecordWord::Colour, 7) => rule("CB", BYTE),
-        (RecordWord::Colour, 8) => rule("T", BYTE),
-        (RecordWord::Picture, 2) => rule("DEPTH", Range::Depth),
-        (RecordWord::Picture, 3) => rule("WIDTH", WIDTH),
-        (RecordWord::Picture, 4) => rule("HEIGHT", HEIGHT),
-        (RecordWord::Place | RecordWord::Cue, 1) => rule("START", Range::Tick),
-        (RecordWord::Place | RecordWord::Cue, 2) => rule("END", Range::Tick),
-        (RecordWord::Place | RecordWord::Cue, 3) => rule("REGION", BYTE),
-        (RecordWord::Place | RecordWord::Cue, 4) => rule("X", COLUMN),
-        (RecordWord::Place | RecordWord::Cue, 5) => rule("Y", ROW),
-        (RecordWord::Cue, 6) => rule("FG", BYTE),
-        (RecordWord::Cue, 7) => rule("BG", BYTE),
+        (RowKind::Origin, 1) => rule("TICK", Range::Between(0, LATEST_ORIGIN)),
+        (RowKind::Display, 1) => rule("WIDTH", WIDTH),
+        (RowKind::Display, 2) => rule("HEIGHT", HEIGHT),
+        (RowKind::Refresh, 1) => rule("SECONDS", Range::Between(1, 60)),
+        (RowKind::Epoch, 1) => rule("START", Range::Tick),
+        (RowKind::Region, 1) => rule("ID", BYTE),
+        (RowKind::Region, 2) => rule("X", COLUMN),
+        (RowKind::Region, 3) => rule("Y", ROW),
+        (RowKind::Region, 4) => rule("WIDTH", WIDTH),
+        (RowKind::Region, 5) => rule("HEIGHT", HEIGHT),
+        (RowKind::Region, 6) => rule("DEPTH", Range::Depth),
+        (RowKind::Region, 7) => rule("CLUT", BYTE),
+        (RowKind::Colour, 1) => rule("TICK", Range::Tick),
+        (RowKind::Colour, 2) => rule("CLUT", BYTE),
+        (RowKind::Colour, 3) => rule("DEPTH", Range::Depth),
+        (RowKind::Colour, 4) => rule("ENTRY", BYTE),
+        (RowKind::Colour, 5) => rule("Y", BYTE),
+        (RowKind::Colour, 6) => rule("CR", BYTE),
+        (RowKind::Colour, 7) => rule("CB", BYTE),
+        (RowKind::Colour, 8) => rule("T", BYTE),
+        (RowKind::Picture, 2) => rule("DEPTH", Range::Depth),
+        (RowKind::Picture, 3) => rule("WIDTH", WIDTH),
+        (RowKind::Picture, 4) => rule("HEIGHT", HEIGHT),
+        (RowKind::Place | RowKind::Cue, 1) => rule("START", Range::Tick),
+        (RowKind::Place | RowKind::Cue, 2) => rule("END", Range::Tick),
+        (RowKind::Place | RowKind::Cue, 3) => rule("REGION", BYTE),
+        (RowKind::Place | RowKind::Cue, 4) => rule("X", COLUMN),
+        (RowKind::Place | RowKind::Cue, 5) => rule("Y", ROW),
+        (RowKind::Cue, 6) => rule("FG", BYTE),
+        (RowKind::Cue, 7) => rule("BG", BYTE),
         _ => None,
     }
 }

@@ -5,8 +5,8 @@
 
 // A record of a script: where it stands, what it is, and what its cells may be.
 mod cell_rules;
+mod kind_name;
 mod record;
-mod record_word;
 
 // Why a script is refused: the rules of its records, and the numbers of this one.
 mod cell_facts;

@@ -1,5 +1,7 @@
-use csv::{ByteRecord, Reader, ReaderBuilder};
+use csv::ByteRecord;
+use cue_records::{RowKind, cell, next_row, reader_of};
 use std::alloc::Global;
+use std::mem;
 use sub_base::NoMemory;
 
 /// A record of a script, and the places of its bytes in the text.
@@ -22,10 +24,8 @@ impl Record {
         let mut start = 0;
         for _ in 0..number {
             start = reader.position().byte();
-            match reader.read_byte_record(&mut cells) {
-                Ok(true) => {}
-                Ok(false) => return Ok(None),
-                Err(_) => return Err(NoMemory),
+            if !next_row(&mut reader, &mut cells)? {
+                return Ok(None);
             }
         }
         let (start, end) = within(text, start, reader.position().byte());
@@ -54,22 +54,6 @@ impl Record {
     }
 }
 
-/// A reader over the records of a script: no header, records of any number of cells.
-fn reader_of(alloc: Global, text: &[u8]) -> Reader<&[u8]> {
-    ReaderBuilder::new()
-        .has_headers(false)
-        .flexible(true)
-        .from_reader(alloc, text)
-}
-
-/// The cell at that place, empty where the record is shorter.
-pub(crate) fn cell(cells: &ByteRecord, place: usize) -> &[u8] {
-    match cells.get(place) {
-        Some(cell) => cell,
-        None => &[],
-    }
-}
-
 /// The last record of a picture of that name.
 pub(crate) fn last_picture(
     alloc: Global,
@@ -77,17 +61,11 @@ pub(crate) fn last_picture(
     name: &[u8],
 ) -> Result<Option<ByteRecord>, NoMemory> {
     let mut reader = reader_of(alloc, text);
+    let mut cells = ByteRecord::new(alloc);
     let mut last = None;
-    // A text has no more records than bytes.
-    for _ in 0..text.len() {
-        let mut cells = ByteRecord::new(alloc);
-        match reader.read_byte_record(&mut cells) {
-            Ok(true) => {}
-            Ok(false) => break,
-            Err(_) => return Err(NoMemory),
-        }
-        if cell(&cells, 0) == b"picture".as_slice() && cell(&cells, 1) == name {
-            last = Some(cells);
+    while next_row(&mut reader, &mut cells)? {
+        if RowKind::of(cell(&cells, 0)) == RowKind::Picture && cell(&cells, 1) == name {
+            last = Some(mem::replace(&mut cells, ByteRecord::new(alloc)));
         }
     }
     Ok(last)

@@ -1,9 +1,9 @@
 use crate::record::Record;
-use crate::record_word::RecordWord;
 use crate::script_facts::{Case, put_facts};
 use crate::script_rules::rule_of;
 use bitmap_font::Font;
 use cue_list::{Script, ScriptKind};
+use cue_records::RowKind;
 use sentence_text::{Part, Text};
 use std::alloc::Global;
 use sub_base::NoMemory;
@@ -22,18 +22,18 @@ pub fn script_refusal(
     let Some(text) = text else {
         told.say(&[
             Part::Words(" of the script: "),
-            Part::Words(rule_of(kind, RecordWord::Other)),
+            Part::Words(rule_of(kind, RowKind::Other)),
         ])?;
         return Ok(told);
     };
     let Some(record) = Record::find(alloc, text, row)? else {
         told.say(&[
             Part::Words(", behind the last one of the script: "),
-            Part::Words(rule_of(kind, RecordWord::Other)),
+            Part::Words(rule_of(kind, RowKind::Other)),
         ])?;
         return Ok(told);
     };
-    let word = RecordWord::of(record.cell(0));
+    let word = RowKind::of(record.cell(0));
     told.say(&[
         Part::Words(", "),
         Part::Quoted(record.bytes(text)),

@@ -1,8 +1,9 @@
 use crate::cell_facts::{put_cell_facts, put_code_facts, put_free_cell};
-use crate::record::{Record, cell, last_picture};
-use crate::record_word::RecordWord;
+use crate::kind_name::kind_name;
+use crate::record::{Record, last_picture};
 use bitmap_font::Font;
-use cue_list::{CLOSE_TICKS, Epoch, MOST_DIGITS, Region, Script, ScriptKind};
+use cue_list::{CLOSE_TICKS, Epoch, MOST_DIGITS, Region, Script, ScriptKind, region_with};
+use cue_records::{RowKind, cell};
 use sentence_text::{Part, Text};
 use std::alloc::Global;
 use sub_base::{Depth, NoMemory, decimal_number};
@@ -17,7 +18,7 @@ pub(crate) struct Case<'a> {
     pub(crate) before: Option<Script>,
     pub(crate) font: Font,
     pub(crate) record: Record,
-    pub(crate) word: RecordWord,
+    pub(crate) word: RowKind,
 }
 
 impl Case<'_> {
@@ -36,12 +37,8 @@ impl Case<'_> {
 
     /// The region of that number in the epoch.
     pub(crate) fn region(&self, id: u64) -> Option<Region> {
-        for region in self.epoch()?.regions.as_slice() {
-            if u64::from(region.id) == id {
-                return Some(*region);
-            }
-        }
-        None
+        let id = u8::try_from(id).ok()?;
+        region_with(self.epoch()?.regions.as_slice(), id)
     }
 }
 
@@ -79,15 +76,15 @@ pub(crate) fn put_facts(
 }
 
 fn put_count(told: &mut Text, case: &Case<'_>) -> Result<(), NoMemory> {
-    let cells = case.record.cells.len() as u64;
+    let cells = case.record.cells.len();
     if cells != case.word.cells() {
         return told.say(&[
             Part::Words("; this one has "),
-            Part::Number(cells),
+            Part::Number(cells as u64),
             Part::Words(" cells, and "),
-            Part::Words(case.word.name()),
+            Part::Words(kind_name(case.word)),
             Part::Words(" asks "),
-            Part::Number(case.word.cells()),
+            Part::Number(case.word.cells() as u64),
         ]);
     }
     match (case.number(3), case.number(4)) {
@@ -112,7 +109,7 @@ fn put_start(told: &mut Text, case: &Case<'_>) -> Result<(), NoMemory> {
         None => return Ok(()),
     }
     match (case.word, last_end(case)) {
-        (RecordWord::Epoch, Some(end)) => told.say(&[
+        (RowKind::Epoch, Some(end)) => told.say(&[
             Part::Words(", and record "),
             Part::Number(end.row),
             Part::Words(" reaches to "),
@@ -231,7 +228,7 @@ fn put_room(told: &mut Text, case: &Case<'_>) -> Result<(), NoMemory> {
 
 /// The sides of the picture that a place names, or of a cue's text.
 fn sides_of(case: &Case<'_>) -> Result<Option<Sides>, NoMemory> {
-    if case.word == RecordWord::Cue {
+    if case.word == RowKind::Cue {
         Ok(text_sides(case))
     } else {
         picture_sides(case)
@@ -280,7 +277,7 @@ fn put_span(told: &mut Text, case: &Case<'_>) -> Result<(), NoMemory> {
 /// The first tick of the records before that lies too close to one of the record's.
 fn put_neighbour(told: &mut Text, case: &Case<'_>) -> Result<(), NoMemory> {
     for place in 1..3 {
-        let is_tick = place == 1 || case.word == RecordWord::Place || case.word == RecordWord::Cue;
+        let is_tick = place == 1 || case.word == RowKind::Place || case.word == RowKind::Cue;
         if let (true, Some(tick)) = (is_tick, case.number(place)) {
             if let Some(other) = neighbour(case, tick) {
                 return told.say(&[

@@ -1,25 +1,25 @@
-use crate::record_word::RecordWord;
 use cue_list::ScriptKind;
+use cue_records::RowKind;
 
 /// What the test asks that a record fails by a fault of that kind.
-pub(crate) fn rule_of(kind: ScriptKind, word: RecordWord) -> &'static str {
+pub(crate) fn rule_of(kind: ScriptKind, word: RowKind) -> &'static str {
     match kind {
         ScriptKind::NotUtf8 => "every cell of a script is text in UTF-8",
         ScriptKind::Unknown => match word {
-            RecordWord::Place => "the mode of a place is solid or through",
+            RowKind::Place => "the mode of a place is solid or through",
             _ => {
                 "a record begins with origin, display, refresh, epoch, region, colour, picture, \
                  place or cue"
             }
         },
         ScriptKind::Count => match word {
-            RecordWord::Picture => {
+            RowKind::Picture => {
                 "a picture has six cells, and CODES as many codes as the picture has pixels"
             }
             _ => "each record has as many cells as its word asks",
         },
         ScriptKind::Number => match word {
-            RecordWord::Picture => {
+            RowKind::Picture => {
                 "a number has 1 to 11 decimal digits, without sign and leading zeros, and CODES \
                  has hexadecimal digits, or runs COUNT*CODE parted by one space each"
             }
@@ -34,11 +34,11 @@ pub(crate) fn rule_of(kind: ScriptKind, word: RecordWord) -> &'static str {
         ScriptKind::NoPicture => "NAME is that of a picture in a record before",
         ScriptKind::CodeRange => code_rule(word),
         ScriptKind::CueOutside => match word {
-            RecordWord::Cue => "the picture of a text lies inside its region",
+            RowKind::Cue => "the picture of a text lies inside its region",
             _ => "a picture lies inside its region",
         },
         ScriptKind::OutsideEpoch => match word {
-            RecordWord::Epoch => {
+            RowKind::Epoch => {
                 "what an epoch shows and sets ends before the next one starts: no cue ends behind \
                  its START, and no colour is at or behind it"
             }
@@ -59,44 +59,44 @@ pub(crate) fn rule_of(kind: ScriptKind, word: RecordWord) -> &'static str {
     }
 }
 
-fn range_rule(word: RecordWord) -> &'static str {
+fn range_rule(word: RowKind) -> &'static str {
     match word {
-        RecordWord::Picture => "NAME has 1 to 64 bytes, and each number lies in its range",
-        RecordWord::Cue => "TEXT has a picture with pixels, and each number lies in its range",
+        RowKind::Picture => "NAME has 1 to 64 bytes, and each number lies in its range",
+        RowKind::Cue => "TEXT has a picture with pixels, and each number lies in its range",
         _ => "each number lies in its range",
     }
 }
 
-fn order_rule(word: RecordWord) -> &'static str {
+fn order_rule(word: RowKind) -> &'static str {
     match word {
-        RecordWord::Origin => "origin is the first record, and stands once",
-        RecordWord::Display => "display is the second record, and stands once",
-        RecordWord::Refresh => "refresh is the third record, and stands once",
-        RecordWord::Epoch => "an epoch stands behind refresh, and starts behind the epoch before",
-        RecordWord::Region => "a region stands in an epoch, before its colours, places and cues",
-        RecordWord::Picture => "a picture stands behind refresh",
-        RecordWord::Colour | RecordWord::Place | RecordWord::Cue => {
+        RowKind::Origin => "origin is the first record, and stands once",
+        RowKind::Display => "display is the second record, and stands once",
+        RowKind::Refresh => "refresh is the third record, and stands once",
+        RowKind::Epoch => "an epoch stands behind refresh, and starts behind the epoch before",
+        RowKind::Region => "a region stands in an epoch, before its colours, places and cues",
+        RowKind::Picture => "a picture stands behind refresh",
+        RowKind::Colour | RowKind::Place | RowKind::Cue => {
             "colours, places and cues stand in an epoch"
         }
-        RecordWord::Other => "a script has an epoch",
+        RowKind::Other => "a script has an epoch",
     }
 }
 
-fn code_rule(word: RecordWord) -> &'static str {
+fn code_rule(word: RowKind) -> &'static str {
     match word {
-        RecordWord::Colour => "ENTRY is below 2 to the power of DEPTH",
-        RecordWord::Picture => "each code of CODES is below 2 to the power of DEPTH",
-        RecordWord::Cue => "FG and BG are below 2 to the power of the region's depth",
+        RowKind::Colour => "ENTRY is below 2 to the power of DEPTH",
+        RowKind::Picture => "each code of CODES is below 2 to the power of DEPTH",
+        RowKind::Cue => "FG and BG are below 2 to the power of the region's depth",
         _ => "a picture is no deeper than its region",
     }
 }
 
-fn limit_rule(word: RecordWord) -> &'static str {
+fn limit_rule(word: RowKind) -> &'static str {
     match word {
-        RecordWord::Epoch => "a script has at most 512 epochs",
-        RecordWord::Region => "an epoch has at most 64 regions",
-        RecordWord::Colour => "a script has at most 8192 colours",
-        RecordWord::Picture => {
+        RowKind::Epoch => "a script has at most 512 epochs",
+        RowKind::Region => "an epoch has at most 64 regions",
+        RowKind::Colour => "a script has at most 8192 colours",
+        RowKind::Picture => {
             "a script has at most 4096 picture records, those whose name is used again with them, \
              and at most 268435456 codes in all pictures and set texts together"
         }

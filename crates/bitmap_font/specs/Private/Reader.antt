@@ -7,7 +7,7 @@ use Rattle.bitmap_font.specs.declared.reader.Draft.{Draft}
 use Rattle.bitmap_font.specs.declared.reader.Reader.{Reader}
 use Rattle.bitmap_font.specs.declared.font_fault.FontKind.{FontKind}
 use Rattle.bitmap_font.specs.declared.line_fault.LineFault.{LineFault}
-use Rattle.bitmap_font.specs.declared.line_fault.LineFault.TheVariants.{OutOfMemory, Wrong}
+use Rattle.bitmap_font.specs.declared.line_fault.LineFault.TheVariants.{Memory, Wrong}
 use Rattle.bitmap_font.specs.Font.{GlyphValue, row_bytes, Indexes}
 use Rattle.bitmap_font.specs.Values.{IsBox}
 use Rattle.bitmap_font.specs.Past.{OpenGlyph, Past, characters_of, has}
@@ -74,10 +74,10 @@ pub record IsReader (reader : Reader) : Type 0 where
 -- a line was taken
 pub record IsTaken (keyword : Keyword) (text : List ℕ) (old new : Reader) : Type 0 where
   pub reader : IsReader new
-  pub right : place_fault (past_of old) keyword text ≡ None
+  pub valid : place_fault (past_of old) keyword text ≡ None
   pub next : past_of new ≡ step_in_place (past_of old) keyword text
 
 -- or was not
 abbrev pub IsLineFault : Option FontKind → LineFault → Type 0
-IsLineFault fault OutOfMemory = ⊤
+IsLineFault fault Memory = ⊤
 IsLineFault fault (Wrong kind) = fault ≡ Some kind

@@ -12,7 +12,7 @@ use Rattle.cue_list.specs.Private.State.{IsReader, past_of}
 -- left
 pub record HasRead (bytes : List ℕ) (font : FontValue) (left : List Row) (kept : Reader) : Type 0 where
   pub left_is : left ≡ drop kept.rows (rows_of bytes)
-  pub right : AreValidRecords font (records_of bytes) kept.rows
+  pub valid : AreValidRecords font (records_of bytes) kept.rows
   pub reader : IsReader kept
   pub stands : past_of kept ≡ looking_back font (records_before (records_of bytes) kept.rows)
   pub drawn : AreDrawn font (records_before (records_of bytes) kept.rows) kept.pictures.items

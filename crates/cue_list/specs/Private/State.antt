@@ -138,7 +138,7 @@ next_by font past kinds.Other number cells = past
 -- a record was taken
 pub record IsTaken (fault : Option ScriptKind) (kept : ScriptPast) (new : Reader) : Type 0 where
   pub reader : IsReader new
-  pub right : fault ≡ None
+  pub valid : fault ≡ None
   pub next : past_of new ≡ kept
 
 -- what is found by looking back, with one more record

@@ -21,15 +21,15 @@ refused_of line kind = Err (Refused line kind)
 
 pub refusal-requires-in-Err-Wrong : goal.refusal-requires-in-Err-Wrong
 refusal-requires-in-Err-Wrong c =
-    omega (arith, c.loop-text.invariant.right.there, length-font_lines c.args.bytes.now, length-lines c.args.bytes.now)
+    omega (arith, c.loop-text.invariant.valid.there, length-font_lines c.args.bytes.now, length-lines c.args.bytes.now)
 
 pub refusal-requires-2 : goal.refusal-requires-2
 refusal-requires-2 c =
-    omega (arith, c.loop-text.invariant.right.there, length-font_lines c.args.bytes.now, length-lines c.args.bytes.now)
+    omega (arith, c.loop-text.invariant.valid.there, length-font_lines c.args.bytes.now, length-lines c.args.bytes.now)
 
 pub overflow_add-number : goal.overflow_add-number
 overflow_add-number c =
-    omega (arith, c.loop-text.invariant.right.there, length-font_lines c.args.bytes.now, length-lines c.args.bytes.now)
+    omega (arith, c.loop-text.invariant.valid.there, length-font_lines c.args.bytes.now, length-lines c.args.bytes.now)
 
 pub returns-in-Err-Wrong-clause-refused : goal.returns-in-Err-Wrong-clause-refused
 returns-in-Err-Wrong-clause-refused c =
@@ -57,7 +57,7 @@ returns-in-Ok-true-clause-font c =
     let law =
     IsFont-end c.args.bytes.now c.loop-text.number c.loop-text.text-iterator c.next.new.self c.in-Some.text.now
     c.loop-text.reader c.loop-text.invariant c.in-Some.ensures.steps
-    later c.take.new.self c.in-Ok-true.ensures.reader c.in-Ok-true.ensures.right c.in-Ok-true.ensures.next
+    later c.take.new.self c.in-Ok-true.ensures.reader c.in-Ok-true.ensures.valid c.in-Ok-true.ensures.next
     (sym c.in-Ok-true.ensures.end ∙ c.in-Ok-true.field-0-test) in
     let Made : FontValue
     → Type 0 = λ font. IfSome c.take.new.self.bounds
@@ -78,7 +78,7 @@ loop-text-preserved c =
           rw w.reader-is
           (HasRead-line c.args.bytes.now c.loop-text.number c.loop-text.text-iterator c.next.new.self c.in-Some.text.now
           c.loop-text.reader c.loop-text.invariant c.in-Some.ensures.steps
-          later w.take.new.self w.in-Ok-false.ensures.reader w.in-Ok-false.ensures.right w.in-Ok-false.ensures.next
+          later w.take.new.self w.in-Ok-false.ensures.reader w.in-Ok-false.ensures.valid w.in-Ok-false.ensures.next
           (sym w.in-Ok-false.ensures.end ∙ w.in-Ok-false.field-0-test))
     ]
 
@@ -96,6 +96,6 @@ finished-requires-clause-bounds c =
     let law =
     IsFont-end c.args.bytes.now c.loop-text.number c.loop-text.text-iterator c.next.new.self c.in-Some.text.now
     c.loop-text.reader c.loop-text.invariant c.in-Some.ensures.steps
-    later c.take.new.self c.in-Ok-true.ensures.reader c.in-Ok-true.ensures.right c.in-Ok-true.ensures.next
+    later c.take.new.self c.in-Ok-true.ensures.reader c.in-Ok-true.ensures.valid c.in-Ok-true.ensures.next
     (sym c.in-Ok-true.ensures.end ∙ c.in-Ok-true.field-0-test) in
     law.0

@@ -1,6 +1,7 @@
 use Rattle.std.proofs.Common.{◌≡◌, min, take, true}
 use Rattle.std.specs.List.{list_all}
-use Rattle.bitmap_font.specs.Words.{value_of, is_digit}
+use Rattle.sub_base.specs.Number.{is_digit}
+use Rattle.bitmap_font.specs.Words.{value_of}
 use Rattle.bitmap_font.proofs.values.magnitude_of.Given as goal
 
 abbrev pub invariant-loop-digit : goal.invariant-loop-digit

@@ -33,15 +33,15 @@ loop-reader-init c =
 
 pub whole-requires : goal.whole-requires
 whole-requires c =
-    omega (arith, c.loop-reader.invariant.read.right.there, length-records c.args.bytes.now, few-rows c.args.bytes.now)
+    omega (arith, c.loop-reader.invariant.read.valid.there, length-records c.args.bytes.now, few-rows c.args.bytes.now)
 
 pub take-requires-clause-fits : goal.take-requires-clause-fits
 take-requires-clause-fits c =
-    omega (arith, c.loop-reader.invariant.read.right.there, length-records c.args.bytes.now, few-rows c.args.bytes.now)
+    omega (arith, c.loop-reader.invariant.read.valid.there, length-records c.args.bytes.now, few-rows c.args.bytes.now)
 
 pub refusal-requires : goal.refusal-requires
 refusal-requires c =
-    omega (arith, c.loop-reader.invariant.read.right.there, length-records c.args.bytes.now, few-rows c.args.bytes.now)
+    omega (arith, c.loop-reader.invariant.read.valid.there, length-records c.args.bytes.now, few-rows c.args.bytes.now)
 
 pub returns-in-Ok-false-clause-refused : goal.returns-in-Ok-false-clause-refused
 returns-in-Ok-false-clause-refused c =
@@ -90,5 +90,5 @@ loop-reader-preserved c =
       read =
           HasRead-next c.args.bytes.now c.args.font.now (rows_left unread c.loop-reader.rows) rest c.loop-reader.reader
           (fields_of c.next_row.new.row) c.loop-reader.invariant.read next c.take.new.self c.in-Ok.ensures.reader
-          c.in-Ok.ensures.right c.in-Ok.ensures.next c.in-Ok.ensures.drawn;
+          c.in-Ok.ensures.valid c.in-Ok.ensures.next c.in-Ok.ensures.drawn;
     }

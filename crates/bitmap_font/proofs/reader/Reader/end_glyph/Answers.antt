@@ -20,7 +20,7 @@ returns-in_ok-keep-clause-taken c =
     c.in-Some-glyph_of.ensures.glyph in
     record {
       reader = search rules;
-      right = search rules;
+      valid = search rules;
       next =
           rw c.in-Some.ensures.after
           (past_ended old.properties old.bounds old.started (option_map draft_of old.draft) (draft_of c.in-Some.draft)

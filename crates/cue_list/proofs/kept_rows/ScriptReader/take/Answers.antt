@@ -18,7 +18,7 @@ returns-in-Ok-take-clause-taken c = λ rows stands.
     record { past = c.in-Ok.ensures.same; pictures = c.in-Ok.ensures.pictures }
     in
     let taken : IsTakenBy font cells c.in-Ok.next c.take.new.self = record {
-      right = c.in-Ok-take.ensures.right;
+      valid = c.in-Ok-take.ensures.valid;
       next_is = c.in-Ok-take.ensures.next;
       brings = c.in-Ok-take.ensures.drawn;
     } in

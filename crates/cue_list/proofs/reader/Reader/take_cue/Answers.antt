@@ -9,7 +9,7 @@ use Rattle.cue_list.proofs.reader.Reader.take_cue.Goals as goal
 pub returns-clause-taken : goal.returns-clause-taken
 returns-clause-taken c = record {
   reader = grind (arith, common_steps);
-  right = grind (arith, common_steps);
+  valid = grind (arith, common_steps);
   next =
       cue-next c.args.font.now (past_of c.args.self.now) c.args.number (fields_of c.args.row.now)
       c.in_ok-cue.cue.placing c.text_cell.result.now (head_of c.in_ok-picture.picture)
