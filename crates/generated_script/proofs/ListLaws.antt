@@ -1,7 +1,7 @@
 -- Lists by their numbers.
 use Rattle.std.proofs.Common.{◌≡◌, ◌∙◌, ℕ, zero, suc, ◌+◌, ◌<◌, List, [], ◌∷◌, ◌++◌, map, length, get_or, All, sym, ap, subst, refl, arith}
 use Rattle.std.specs.List.{range_with_len, flat_map, AllZip}
-use Rattle.std.proofs.lemmas.List.{flat_map_more, map-id}
+use Rattle.std.proofs.lemmas.List.{flat_map_more, map-append, map-id}
 use Rattle.std.proofs.lemmas.List.Elements.{All-append, All-head, All-tail}
 use Rattle.std.proofs.lemmas.List.FromFn.{map-range_with_len_more}
 use Rattle.sub_base.proofs.ListLaws.{pair_more}
@@ -20,6 +20,15 @@ item_more R a n ys zs y all here is =
     subst (λ xs. AllZip R xs zs) (sym (range_more a n))
     (subst (AllZip R (range_with_len a n ++ (a + n) ∷ [])) (sym is)
     (pair_more R (range_with_len a n) ys (a + n) y all here))
+
+-- one item more whose numbers are a range
+pub number_more : {B : Type 0} (f : B → ℕ) (a n : ℕ) (old new : List B) (y : B)
+    → map f old ≡ range_with_len a n → f y ≡ a + n → new ≡ old ++ y ∷ []
+    → map f new ≡ range_with_len a (n + 1)
+number_more f a n old new y was here is =
+    ap (map f) is ∙ map-append f old (y ∷ []) ∙ ap (λ (xs : List ℕ). xs ++ f y ∷ []) was
+    ∙ ap (λ (k : ℕ). range_with_len a n ++ k ∷ []) here
+    ∙ sym (range_more a n)
 
 -- there are as many items as numbers
 pub item_count : {B : Type 0} (R : ℕ → B → Type 0) (a n : ℕ) (ys : List B)

@@ -48,12 +48,16 @@ IsGeneratedCue k cue = cue ≡ record {
   see_through = k % 4 == 3;
 }
 
--- this is epoch e of so many cues
+-- this is epoch e of so many cues, in a file in which three records and those of the pictures stand before the epochs:
+-- an epoch has its own record, those of its two regions, and those of its cues
 pub record IsGeneratedEpoch (number e : ℕ) (epoch : Epoch) : Type 0 where
   pub start : epoch.start ≡ 180000 + 1440000 * e
+  pub row : epoch.row ≡ 4 + min number 16 + 19 * e
   pub regions : epoch.regions ≡ generated_region 0 ∷ generated_region 1 ∷ []
   pub colours : epoch.colours ≡ []
   pub cues : AllZip IsGeneratedCue (range_with_len (16 * e) (min number (16 * e + 16) - 16 * e)) epoch.cues
+  pub cue_rows : map (λ (cue : Cue). cue.row) epoch.cues
+      ≡ range_with_len (epoch.row + 3) (min number (16 * e + 16) - 16 * e)
 
 -- this is the script of so many cues: display of 320 by 180, a refresh each five seconds, an epoch for each sixteen
 -- cues begun

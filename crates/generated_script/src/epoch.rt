@@ -1,4 +1,4 @@
-ghost use Rattle.std.specs.Prelude.{◌≡◌, ◌+◌, ◌*◌, ◌/◌, ◌<◌, ◌≤◌, [], ◌∷◌, IfOk};
+ghost use Rattle.std.specs.Prelude.{◌≡◌, ◌+◌, ◌*◌, ◌/◌, ◌<◌, ◌≤◌, [], ◌∷◌, map, IfOk};
 ghost use Rattle.std.specs.List.{range_with_len, AllZip};
 ghost use Rattle.generated_script.specs.Generated.{generated_length, generated_region, IsGeneratedCue, IsGeneratedEpoch};
 
@@ -72,7 +72,8 @@ fn length(number: u64) -> u64
 /// The cue of that number, from a record of the script.
 fn cue(number: u64, row: u64) -> Cue
     requires { number < 500 }
-    ensures { IsGeneratedCue number result }
+    ensures generated { IsGeneratedCue number result }
+    ensures row { result.row ≡ row }
 {
     let start = FIRST_START + CUE_DISTANCE * number;
     Cue {
@@ -91,7 +92,10 @@ fn cue(number: u64, row: u64) -> Cue
 fn cues(alloc: Global, first: u64, count: u64, row: u64) -> Result<Vec<Cue>, NoMemory>
     requires few { first + count ≤ 500 }
     requires row { row ≤ 1000 }
-    ensures { IfOk result (λ cues. AllZip IsGeneratedCue (range_with_len first count) cues.items) }
+    ensures each { IfOk result
+        (λ cues. AllZip IsGeneratedCue (range_with_len first count) cues.items) }
+    ensures rows { IfOk result
+        (λ cues. map (λ cue. cue.row) cues.items ≡ range_with_len row count) }
 {
     let mut cues = Vec::new(alloc);
     for place in 0..count {

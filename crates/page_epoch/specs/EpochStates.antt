@@ -57,10 +57,11 @@ abbrev pub is_first : List ℕ → Bool
 is_first [] = true
 is_first (tick ∷ earlier) = false
 
--- the version and the number of cues that were drawn last, one instant on
+-- the version of a region one instant on: it goes up where the region is drawn anew
 abbrev pub version_after : Bool → List ℕ → List ℕ → ℕ → ℕ
 version_after first old new version = if not first && is_redrawn old new then (version + 1) % 16 else version
 
+-- the number of cues with which a region was drawn last, one instant on
 abbrev pub drawn_count_after : List ℕ → ℕ → ℕ
 drawn_count_after new before = if has_some new then length new else before
 
@@ -81,11 +82,12 @@ version_of_count count = if count == 0 then None else Some ((count - 1) % 16)
 abbrev pub changed_version : List ColourRow → List ℕ → ℕ → Option ℕ
 changed_version colours seen clut = version_of_count (count_by (is_changed colours clut) seen)
 
--- the same one instant on
+-- the version of a CLUT that changes once more
 abbrev pub next_version : Option ℕ → Option ℕ
 next_version None = Some 0
 next_version (Some version) = Some ((version + 1) % 16)
 
+-- the version of a CLUT one instant on
 abbrev pub clut_after : Bool → Option ℕ → Option ℕ
 clut_after changed current = if changed then next_version current else current
 

@@ -79,7 +79,7 @@ pub record IsNumbered (epoch : Epoch) : Type 0 where
   pub bytes : All (λ (region : Region). region.id ≤ 255) epoch.regions
   pub apart : AllPairs (λ (first second : Region). first.id ≢ second.id) epoch.regions
 
--- what the walk relies on: epochs within the limits, in order of their starts, whose ticks are below 2^33 and begin
+-- what the walk relies on: epochs within the limits, in order of their starts, whose ticks are below 2^34 and begin
 -- with the start of the first one, and cues that end after their starts
 pub record IsPlain (epochs : List Epoch) (refresh : ℕ) : Type 0 where
   pub some : 1 ≤ length epochs
@@ -102,10 +102,11 @@ pub record Enters (epochs : List Epoch) (tick : ℕ) (old new : EpochWalk) : Typ
   pub place : new.place ≡ old.place + 1
   pub stands : IsEpochWalk epochs [] new
 
--- or stays, where none does
+-- the walk stays in its epoch, where none begins by a tick after it
 pub record Stays (epochs : List Epoch) (tick : ℕ) (old new : EpochWalk) : Type 0 where
   pub same : new ≡ old
   pub later : (next : Epoch) → slice_get epochs (old.place + 1) ≡ Some next → tick < next.start
 
+-- by a tick the walk is in the next epoch if that has begun, and else where it was
 abbrev pub WalkGoesOn : List Epoch → ℕ → EpochWalk → EpochWalk → Type 0
 WalkGoesOn epochs tick old new = Enters epochs tick old new ⊎ Stays epochs tick old new

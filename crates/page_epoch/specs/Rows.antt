@@ -11,10 +11,11 @@ use Rattle.page_epoch.specs.Instants.{named_ticks}
 abbrev pub event : ℕ → ℕ → Event
 event tick row = record { tick = tick; row = row }
 
--- the ticks that the records of an epoch name, each with its record
+-- the ticks that the record of a cue names: its start and its end
 abbrev pub events_of_cue : Cue → List Event
 events_of_cue cue = event cue.start cue.row ∷ event cue.end cue.row ∷ []
 
+-- the ticks that the records of an epoch name, each with its record
 abbrev pub events_of : Epoch → List Event
 events_of epoch =
     event epoch.start epoch.row

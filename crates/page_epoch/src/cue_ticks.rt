@@ -60,7 +60,7 @@ impl CueTicks {
 
     /// Whether some cue is live at a tick: more have started by then than have ended, since each
     /// ends after its start.
-    pub fn show_cue(&self, tick: u64) -> bool
+    pub fn shows_cue(&self, tick: u64) -> bool
         ensures { (epochs : List EpochValue) → AreCueTicks epochs self.now → AreLasting epochs
             → result ≡ shows_cue_at epochs tick }
     {

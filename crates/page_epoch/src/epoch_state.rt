@@ -9,7 +9,7 @@ ghost use Rattle.page_epoch.specs.EpochWalks.{IsSmallEpoch, IsEpochState, IsSafe
 use crate::clut_changes::ClutChanges;
 use crate::clut_step::step_cluts;
 use crate::instants::Instant;
-use crate::layout::{Layout, drawn_count, listed, shown};
+use crate::layout::{Layout, drawn_count, listed_cues_of, shown_ids};
 use crate::planned_set::PlannedSet;
 use crate::region_state::{RegionCues, RegionState, step_regions};
 use cue_list::Epoch;
@@ -155,8 +155,8 @@ impl EpochState {
             tick,
             whole,
         )?;
-        let shown = shown(alloc, layout.by_y.as_slice(), regions.states.as_slice())?;
-        let listed = listed(alloc, regions.sent.as_slice())?;
+        let shown = shown_ids(alloc, layout.by_y.as_slice(), regions.states.as_slice())?;
+        let listed = listed_cues_of(alloc, regions.sent.as_slice())?;
         // What a receiver holds behind this set: regions, page entries, listings, and CLUTs with
         // the entries that are set.
         let nodes = epoch.regions.len() as u64

@@ -72,7 +72,7 @@ pub fn instants_of(
         })?;
         // A page without a cue shows nothing that a late receiver misses. No cue is live at the
         // last tick, as it would end later.
-        if i + 1 < events.len() && cues.show_cue(event.tick) {
+        if i + 1 < events.len() && cues.shows_cue(event.tick) {
             push_refreshes(&mut instants, *event, events[i + 1].tick, refresh)?;
         }
     }

@@ -113,7 +113,7 @@ impl Layout {
 }
 
 /// The numbers of the regions that have a live cue, from the top of the display.
-pub fn shown(
+pub fn shown_ids(
     alloc: Global,
     page_regions: &[PageRegion],
     states: &[RegionState],
@@ -131,7 +131,7 @@ pub fn shown(
 }
 
 /// The cues that regions list, in the script's order.
-pub fn listed(alloc: Global, regions: &[SentRegion]) -> Result<Items<u32>, AllocError>
+pub fn listed_cues_of(alloc: Global, regions: &[SentRegion]) -> Result<Items<u32>, AllocError>
     ensures same { IfOk result (λ cues. IsPermutation (listed_cues regions.now) cues) }
     ensures order { IfOk result IsNonDecreasing }
 {

@@ -59,11 +59,12 @@ pub record IsOnTime (loads : List WriteLoad) (n : ℕ) (pace : Pace) (table : Ti
   pub short : (i : ℕ) → i < n → longest_of loads i ≤ UNIT_ROOM
   pub ready : (i : ℕ) → i < n → slice_index table.dones i ≤ (load_of loads i).pts
 
--- the slots of one set, from where those of the set before end to where its own do
+-- where the slots of one set begin: where those of the set before end
 abbrev pub start_of : Timetable → ℕ → ℕ
 start_of table zero = 0
 start_of table (suc set) = slice_index table.ends set
 
+-- the slots of one set, from where those of the set before end to where its own do
 abbrev pub slots_of : Timetable → ℕ → List ℕ
 slots_of table set = slice_range table.slots (start_of table set) (slice_index table.ends set)
 

@@ -122,6 +122,20 @@ set_slots loads table i within slotted =
       omega (arith, all, slotted.packets, few_slots table.slots slotted.rise slotted.small),
     )
 
+-- where one set more has more packets than so many, so have all numbers of sets above
+pub most_sets : (loads : List WriteLoad) (table : Timetable) (i most : ℕ) → i < length loads
+    → AreSlotted loads table → most < first_packet loads i + length (slots_of table i)
+    → (sets : ℕ) → sets ≤ length loads → first_packet loads sets ≤ most → sets ≤ i
+most_sets loads table i most within slotted many sets among few =
+    elim (cases_lt i sets) [
+      | inl past ↦
+          let own = set_slots loads table i within slotted in
+          let more : first_packet loads (i + 1) ≤ first_packet loads sets =
+          sum_below-rises (packets_of loads) (i + 1) sets (omega (arith, past)) in
+          absurd (omega (arith, own.0, more, many, few))
+      | inr order ↦ order
+    ]
+
 -- ---- what a stream has left
 
 -- behind so many slots of a stream stand the packets that are left of it, where those before the first of these stand

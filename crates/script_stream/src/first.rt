@@ -1,5 +1,5 @@
-ghost use Rattle.std.specs.Prelude.{◌≡◌, ◌<◌, ◌≤◌, ◌^◌};
-ghost use Rattle.slot_stream.specs.SlotStream.{slot_count};
+ghost use Rattle.std.specs.Prelude.{ℕ, ◌≤◌, length};
+ghost use Rattle.schedule.specs.Packets.{first_packet};
 ghost use Rattle.script_stream.specs.Private.Timing.{AreFirst, AreSlotted};
 
 use schedule::Schedule;
@@ -17,6 +17,8 @@ pub fn first_sets(schedule: &Schedule, loads: &[WriteLoad], most: usize) -> Firs
     requires { AreSlotted loads.now schedule.now }
     ensures first { AreFirst loads.now result.sets result.packets }
     ensures few { result.packets ≤ most }
+    ensures largest { (sets : ℕ) → sets ≤ length loads.now → first_packet loads.now sets ≤ most
+        → sets ≤ result.sets }
 {
     let mut packets = 0;
     for set in 0..loads.len() {
@@ -29,16 +31,5 @@ pub fn first_sets(schedule: &Schedule, loads: &[WriteLoad], most: usize) -> Firs
     FirstSets {
         sets: loads.len(),
         packets,
-    }
-}
-
-/// How many slots there are up to the last one.
-pub fn count_of(slots: &[u64]) -> u64
-    requires { slot_count slots.now < 2 ^ 64 }
-    ensures { result ≡ slot_count slots.now }
-{
-    match slots {
-        [] => 0,
-        [.., last] => *last + 1,
     }
 }

@@ -6,12 +6,12 @@ ghost use Rattle.script_stream.specs.Refused.{IsSendCause};
 ghost use Rattle.script_stream.specs.Private.Timing.{AreFirst, AreKeptOf, AreLeftOf, AreReady};
 
 use crate::faults::SendFault;
-use crate::first::{FirstSets, count_of, first_sets};
+use crate::first::{FirstSets, first_sets};
 use crate::timed::{Timed, plan_of};
 use crate::units::{pieces_of, units_of};
 use cue_list::Script;
 use set_coder::KeptBlocks;
-use slot_stream::{KeptPackets, first_from};
+use slot_stream::{KeptPackets, first_from, slot_count};
 use std::alloc::Global;
 use sub_base::{NoMemory, ProfileName};
 
@@ -78,7 +78,7 @@ fn left_of(
     let kept = kept_behind(alloc, pid, page, script, blocks, timed, first)?;
     Ok(PacketsLeft {
         kept,
-        count: count_of(slots),
+        count: slot_count(slots),
     })
 }
 

@@ -13,7 +13,7 @@ use Rattle.cue_list.specs.declared.script.Script.{Script}
 use Rattle.page_epoch.specs.Sendable.{find_region}
 use Rattle.set_coder.specs.declared.coded_picture.CodedPicture.{CodedPicture}
 use Rattle.set_coder.specs.declared.coded_picture.Slots.{Slots}
-use Rattle.set_coder.specs.declared.kept_blocks.TheConstants.{MOST_BYTES}
+use Rattle.sub_base.specs.declared.profile.TheConstants.{LARGEST_BUFFER}
 
 -- the blocks are those of the picture's two fields for a region of that depth, and draw it there
 pub record IsCoded (picture : Picture) (region : Depth) (coded : CodedPicture) : Type 0 where
@@ -39,11 +39,11 @@ pub record CanBeKept (picture : Picture) (region : Depth) : Type 0 where
   pub top : ℕ
   pub bottom : ℕ
   pub sizes : AreFieldSizes picture region top bottom
-  pub fits : top + bottom ≤ MOST_BYTES
+  pub fits : top + bottom ≤ LARGEST_BUFFER
 
 -- the blocks fit into the largest coded data buffer
 abbrev pub FitsLargestBuffer : CodedPicture → Type 0
-FitsLargestBuffer coded = coded.lengths.top + coded.lengths.bottom ≤ MOST_BYTES
+FitsLargestBuffer coded = coded.lengths.top + coded.lengths.bottom ≤ LARGEST_BUFFER
 
 -- the blocks are those of the picture of that number for a region of that depth
 abbrev pub IsOf : ℕ → Depth → CodedPicture → Type 0

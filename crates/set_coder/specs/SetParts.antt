@@ -1,32 +1,8 @@
--- The parts of a set by themselves: a region with the listings that it is given, and the blocks of a cue's picture.
+-- The blocks of a cue's picture by themselves.
 use Rattle.std.specs.Prelude.{ℕ, ◌+◌, ◌^◌, ◌≤◌, List, length, take, drop}
 use Rattle.stream_syntax.specs.SegmentTests.{AreBlocks}
-use Rattle.stream_syntax.specs.Segments.{SegmentValue, of_region}
-use Rattle.stream_syntax.specs.declared.region.Listing.{Listing}
-use Rattle.cue_list.specs.declared.epoch.Epoch.{Epoch}
-use Rattle.page_epoch.specs.declared.planned_set.SentRegion.{SentRegion}
-use Rattle.set_coder.specs.SetSegments.{epoch_region}
 use Rattle.set_coder.specs.declared.cue_blocks.BlockBytes.{BlockBytes}
 use Rattle.set_coder.specs.declared.cue_blocks.BlockBytes.TheVariants.{Kept, Coded}
-
--- a region that lists these objects; where it is filled, with code 0
-abbrev pub listed_region : Epoch → SentRegion → List Listing → SegmentValue
-listed_region epoch sent listings =
-    of_region (record {
-      head = record {
-        region = sent.id;
-        version = sent.version;
-        fill = sent.fill;
-        width = (epoch_region epoch sent.id).width;
-        height = (epoch_region epoch sent.id).height;
-        depth = (epoch_region epoch sent.id).depth;
-        clut = (epoch_region epoch sent.id).clut;
-        code8 = 0;
-        code4 = 0;
-        code2 = 0;
-      };
-      listings = listings;
-    })
 
 -- the blocks of the two fields of a picture
 pub record TwoBlocks : Type 0 where

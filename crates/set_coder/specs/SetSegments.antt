@@ -10,7 +10,7 @@ use Rattle.stream_syntax.specs.declared.wire.TheConstants.{TIME_ROUND}
 use Rattle.stream_syntax.specs.DataField.{data_field}
 use Rattle.stream_syntax.specs.FieldBlocks.{AreFieldBlocks, DrawsPicture}
 use Rattle.stream_syntax.specs.Pes.{written_pes}
-use Rattle.stream_syntax.specs.Segments.{SegmentValue, of_page, of_region, of_clut, of_object, of_display, end_of_set, Display, spelled, IsWritable}
+use Rattle.stream_syntax.specs.Segments.{SegmentValue, of_page, of_region, of_clut, of_object, of_display, end_of_set, Display, Object, spelled, IsWritable}
 use Rattle.stream_syntax.specs.declared.clut.ClutEntry.{ClutEntry}
 use Rattle.stream_syntax.specs.declared.page.PageEntry.{PageEntry}
 use Rattle.stream_syntax.specs.declared.page.State.{State}
@@ -81,9 +81,9 @@ page_segment script epoch set =
 abbrev pub listing_of : Epoch → ℕ → Listing
 listing_of epoch place = record { object = place; x = (cue_at epoch.cues place).x; y = (cue_at epoch.cues place).y }
 
--- a region, with the cues that it lists; where it is filled, with code 0
-abbrev pub region_segment_of : Epoch → SentRegion → SegmentValue
-region_segment_of epoch sent =
+-- a region that lists these objects; where it is filled, with code 0
+abbrev pub listed_region : Epoch → SentRegion → List Listing → SegmentValue
+listed_region epoch sent listings =
     of_region (record {
       head = record {
         region = sent.id;
@@ -97,8 +97,12 @@ region_segment_of epoch sent =
         code4 = 0;
         code2 = 0;
       };
-      listings = map (listing_of epoch) sent.cues;
+      listings = listings;
     })
+
+-- a region, with the cues that it lists
+abbrev pub region_segment_of : Epoch → SentRegion → SegmentValue
+region_segment_of epoch sent = listed_region epoch sent (map (listing_of epoch) sent.cues)
 
 -- an entry of a CLUT: the one that the colour row sets, in the table of its depth alone
 abbrev pub clut_entry_of : Epoch → ℕ → ClutEntry
@@ -123,10 +127,14 @@ leading_segments script epoch set =
     ++ (page_segment script epoch set
     ∷ (map (region_segment_of epoch) set.regions ++ map (clut_segment_of epoch) set.cluts))
 
--- an object of that number with these blocks of its two fields
+-- an object of that number with these blocks of its two fields; its version is 0, whatever its number
+abbrev pub object_with : ℕ → Bool → List ℕ → List ℕ → Object
+object_with number see_through top bottom =
+    record { object = number; version = 0; see_through = see_through; top = top; bottom = bottom }
+
+-- the segment of that object
 abbrev pub object_segment : ℕ → Bool → List ℕ → List ℕ → SegmentValue
-object_segment place see_through top bottom =
-    of_object (record { object = place; version = 0; see_through = see_through; top = top; bottom = bottom })
+object_segment number see_through top bottom = of_object (object_with number see_through top bottom)
 
 -- The object of the cue at a place: the blocks of the fields of the cue's picture, for the depth of its region. They
 -- draw the picture.

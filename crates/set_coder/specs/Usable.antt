@@ -44,7 +44,7 @@ pub record IsUsable (epoch : Epoch) : Type 0 where
   pub few_cues : length epoch.cues ≤ MOST_CUES
   pub cues : All IsUsablePlace epoch.cues
 
--- a cue's picture and region are there, and the picture is no deeper and no larger than a region can be
+-- a cue's picture and region are there, and the picture is no deeper than the region and has no side over 1,920
 pub record IsDrawable (pictures : List Picture) (epoch : Epoch) (cue : Cue) : Type 0 where
   pub picture : cue.picture < length pictures
   pub region : HasRegion epoch cue.region
@@ -52,5 +52,6 @@ pub record IsDrawable (pictures : List Picture) (epoch : Epoch) (cue : Cue) : Ty
   pub wide : (picture_at_place pictures cue.picture).width ≤ 1920
   pub high : (picture_at_place pictures cue.picture).height ≤ 1920
 
+-- each cue of an epoch can be drawn
 abbrev pub AreDrawable : List Picture → Epoch → Type 0
 AreDrawable pictures epoch = All (IsDrawable pictures epoch) epoch.cues

@@ -1,4 +1,4 @@
-ghost use Rattle.std.specs.Prelude.{◌≡◌, ℕ, ◌+◌, ◌*◌, ◌<◌, ◌≤◌, ◌++◌, [], List, length, slice_get, slice_index_or, IfOk, IfSome, IsSome, OnOk, IsTrue, ◌↔◌, All, Any, Contains};
+ghost use Rattle.std.specs.Prelude.{◌≡◌, ℕ, ◌+◌, ◌*◌, ◌<◌, ◌≤◌, ◌++◌, [], List, length, slice_get, slice_index_or, IfOk, IfSome, IsSome, OnOk, OnErr, IsTrue, ◌↔◌, All, Any, Contains};
 ghost use Rattle.stream_syntax.specs.PixelBlocks.{IsNoDeeper};
 ghost use Rattle.stream_syntax.specs.FieldBlocks.{AreFieldBlocks, AreFieldSizes, DrawsPicture};
 ghost use Rattle.set_coder.specs.KeptBlocks.{IsCoded, AreCoded, CanBeKept, FitsLargestBuffer, IsOf, IsPictureKept, IsCueKept, AreKept, place_in, place_of, AreLedTo};
@@ -14,13 +14,9 @@ use pixel_codes::is_no_deeper;
 use std::alloc::Global;
 use sub_base::{Depth, LARGEST_BUFFER, NoMemory};
 
-/// The largest coded data buffer of a receiver. A set with more bytes is refused, so no more of a
-/// picture are kept.
-const MOST_BYTES: u64 = LARGEST_BUFFER;
-
 impl KeptBlocks {
     /// Codes the pictures that the cues of a script show. Blocks of more bytes than the largest
-    /// coded data buffer has are not kept.
+    /// coded data buffer has are not kept: a set with them is refused.
     pub fn of_script(alloc: Global, script: &Script) -> Result<KeptBlocks, NoMemory>
         ensures right { IfOk result (λ kept. AreCoded script.now.pictures kept.coded.items) }
         ensures kept { IfOk result (λ kept. AreKept script.now kept.coded.items) }
@@ -181,12 +177,12 @@ fn can_be_kept(picture: &Indexed, region: Depth) -> bool
     }
     // Twice the most bytes: three a pixel, ten a row, and those of two tables and an empty field.
     let row = 3 * u64::from(picture.width()) + 10;
-    if 70 + u64::from(picture.height()) * row <= 2 * MOST_BYTES {
+    if 70 + u64::from(picture.height()) * row <= 2 * LARGEST_BUFFER {
         return true;
     }
     // Measured before it is coded, so that no memory is taken for what no buffer holds.
     let sizes = field_sizes(picture, region);
-    sizes.top + sizes.bottom <= MOST_BYTES
+    sizes.top + sizes.bottom <= LARGEST_BUFFER
 }
 
 /// Codes a picture for a region of a depth.
@@ -273,7 +269,8 @@ impl<'a> BlockLookup<'a> {
         self.led_to(number, region)
     }
 
-    /// What `write_fields` does for a picture, from the blocks that are kept where they are.
+    /// What `write_fields` does for a picture, from the blocks that are kept where they are. After
+    /// want of memory `out` is as before.
     pub(crate) fn write_fields(
         &self,
         pictures: &[Indexed],
@@ -298,6 +295,7 @@ impl<'a> BlockLookup<'a> {
             × (out.new.items ≡ out.old.items ++ (top ++ bottom))
             × (lengths.top ≡ length top) × (lengths.bottom ≡ length bottom)
             × DrawsPicture picture.now region top bottom) }
+        ensures kept { OnErr result (out.new.items ≡ out.old.items) }
     {
         match self.find(pictures, picture, number, region) {
             Some(coded) => {

@@ -1,4 +1,4 @@
-ghost use Rattle.std.specs.Prelude.{◌≡◌, ℕ, ◌+◌, ◌≤◌, ◌++◌, List, length, All, OnOk};
+ghost use Rattle.std.specs.Prelude.{◌≡◌, ℕ, ◌+◌, ◌≤◌, ◌++◌, List, length, All, OnOk, OnErr};
 ghost use Rattle.std.specs.List.{flat_map};
 ghost use Rattle.cue_records.specs.declared.limits.TheConstants.{MOST_CUES};
 ghost use Rattle.segments.specs.Sizes.{object_size};
@@ -66,6 +66,7 @@ fn append_object(
     ensures object { OnOk result
         ((object : SegmentValue) × IsObjectOf script.now.pictures epoch.now place object
         × IsWritable page object × (field.new.items ≡ field.old.items ++ spelled page object)) }
+    ensures kept { OnErr result (field.new.items ≡ field.old.items) }
 {
     let cue = cue_at(epoch, place);
     let picture = &script.pictures.as_slice()[cue.picture as usize];
@@ -121,6 +122,7 @@ pub fn append_blocks(
     ensures bytes { OnOk result
         (field.new.items ≡ field.old.items
         ++ spelled page (object_segment object see_through top.now bottom.now)) }
+    ensures kept { OnErr result (field.new.items ≡ field.old.items) }
 {
     let object = ObjectSeg {
         object,

@@ -1,11 +1,10 @@
-ghost use Rattle.std.specs.Prelude.{◌≡◌, ◌<◌, ◌≤◌, ◌++◌, length, map, All, IfOk, OnOk};
+ghost use Rattle.std.specs.Prelude.{◌≡◌, ◌<◌, ◌≤◌, ◌++◌, length, map, All, IfOk, OnOk, OnErr};
 ghost use Rattle.std.specs.List.{flat_map};
 ghost use Rattle.cue_records.specs.declared.limits.TheConstants.{MOST_CUES, MOST_REGIONS};
 ghost use Rattle.stream_syntax.specs.Fields.{FitsFields};
 ghost use Rattle.stream_syntax.specs.Segments.{spelled, end_of_set, listing_fields};
 ghost use Rattle.page_epoch.specs.Sendable.{HasRegion, HasCue, HasColour, IsSendableIn, IsSendableRegion, IsSendableClut};
-ghost use Rattle.set_coder.specs.SetSegments.{display_segments, time_out_of, page_entry_of, page_segment, listing_of, region_segment_of, clut_entry_of, clut_segment_of, leading_segments};
-ghost use Rattle.set_coder.specs.SetParts.{listed_region};
+ghost use Rattle.set_coder.specs.SetSegments.{display_segments, time_out_of, page_entry_of, page_segment, listing_of, listed_region, region_segment_of, clut_entry_of, clut_segment_of, leading_segments};
 ghost use Rattle.set_coder.specs.Usable.{IsUsable};
 
 use crate::named::{colour_at, cue_at, epoch_region};
@@ -45,6 +44,7 @@ pub fn append_display(
     ensures bytes { OnOk result
         (field.new.items ≡ field.old.items
         ++ flat_map (spelled page) (display_segments script.now state)) }
+    ensures kept { OnErr result (field.new.items ≡ field.old.items) }
 {
     // Whoever shows a normal set has the display from the entry point before.
     if state == State::Normal {
@@ -82,6 +82,7 @@ pub fn append_page(
     ensures bytes { OnOk result
         (field.new.items ≡ field.old.items
         ++ spelled page (page_segment script.now epoch.now set.now)) }
+    ensures kept { OnErr result (field.new.items ≡ field.old.items) }
 {
     let entries = page_entries(*field.allocator(), epoch, set.shown.as_slice())?;
     let segment = SegmentOut::Page {
@@ -141,6 +142,7 @@ fn append_region(
     ensures bytes { OnOk result
         (field.new.items ≡ field.old.items
         ++ spelled page (region_segment_of epoch.now sent.now)) }
+    ensures kept { OnErr result (field.new.items ≡ field.old.items) }
 {
     let listings = listings_of(*field.allocator(), epoch, sent.cues.as_slice())?;
     append_listed(epoch, page, sent, listings.as_slice(), field)
@@ -162,6 +164,7 @@ pub fn append_listed(
     ensures bytes { OnOk result
         (field.new.items ≡ field.old.items
         ++ spelled page (listed_region epoch.now sent.now listings.now)) }
+    ensures kept { OnErr result (field.new.items ≡ field.old.items) }
 {
     let region = epoch_region(epoch, sent.id);
     let head = RegionHead {
@@ -227,6 +230,7 @@ pub fn append_clut(
     requires sent { IsSendableClut epoch.now sent.now }
     ensures bytes { OnOk result
         (field.new.items ≡ field.old.items ++ spelled page (clut_segment_of epoch.now sent.now)) }
+    ensures kept { OnErr result (field.new.items ≡ field.old.items) }
 {
     let entries = clut_entries(*field.allocator(), epoch, sent.rows.as_slice())?;
     let segment = SegmentOut::Clut {
@@ -260,6 +264,7 @@ fn clut_entries(alloc: Global, epoch: &Epoch, rows: &[u32]) -> Result<Vec<ClutEn
 /// Appends the end of a set.
 pub fn append_end(page: u16, field: &mut Vec<u8>) -> Result<(), NoMemory>
     ensures bytes { OnOk result (field.new.items ≡ field.old.items ++ spelled page end_of_set) }
+    ensures kept { OnErr result (field.new.items ≡ field.old.items) }
 {
     write_segment(page, &SegmentOut::End, field)
 }

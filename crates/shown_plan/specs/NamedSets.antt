@@ -5,7 +5,7 @@ use Rattle.std.specs.List.{AllZip, Contains}
 use Rattle.std.specs.List.Sorted.{IsPermutation}
 use Rattle.sub_base.specs.Picture.{Picture}
 use Rattle.stream_syntax.specs.FieldBlocks.{AreFieldBlocks, DrawsPicture}
-use Rattle.stream_syntax.specs.Segments.{SegmentValue, of_region, of_object, end_of_set, Object}
+use Rattle.stream_syntax.specs.Segments.{SegmentValue, of_object, end_of_set, Object}
 use Rattle.stream_syntax.specs.declared.region.Listing.{Listing}
 use Rattle.cue_list.specs.declared.epoch.Epoch.{Epoch}
 use Rattle.cue_list.specs.declared.script.Script.{Script}
@@ -13,7 +13,7 @@ use Rattle.page_epoch.specs.Live.{cue_at}
 use Rattle.page_epoch.specs.declared.planned_set.PlannedSet.{PlannedSet}
 use Rattle.page_epoch.specs.declared.planned_set.SentClut.{SentClut}
 use Rattle.page_epoch.specs.declared.planned_set.SentRegion.{SentRegion}
-use Rattle.set_coder.specs.SetSegments.{epoch_region, picture_of_cue, depth_of_cue, display_segments, page_segment, clut_segment_of}
+use Rattle.set_coder.specs.SetSegments.{picture_of_cue, depth_of_cue, display_segments, page_segment, listed_region, clut_segment_of, object_with}
 
 -- the number of the object of a cue, by the cue's place in its epoch
 abbrev pub Names : Type 0
@@ -34,35 +34,14 @@ abbrev pub named_listing : Names → Epoch → ℕ → Listing
 named_listing names epoch place =
     record { object = names place; x = (cue_at epoch.cues place).x; y = (cue_at epoch.cues place).y }
 
--- a region, with the cues that it lists; where it is filled, with code 0
+-- a region, with the cues that it lists
 abbrev pub named_region : Names → Epoch → SentRegion → SegmentValue
-named_region names epoch sent =
-    of_region (record {
-      head = record {
-        region = sent.id;
-        version = sent.version;
-        fill = sent.fill;
-        width = (epoch_region epoch sent.id).width;
-        height = (epoch_region epoch sent.id).height;
-        depth = (epoch_region epoch sent.id).depth;
-        clut = (epoch_region epoch sent.id).clut;
-        code8 = 0;
-        code4 = 0;
-        code2 = 0;
-      };
-      listings = map (named_listing names epoch) sent.cues;
-    })
+named_region names epoch sent = listed_region epoch sent (map (named_listing names epoch) sent.cues)
 
--- the object of the cue at a place, with these blocks of its two fields; its version is 0, whatever its number
+-- the object of the cue at a place, with these blocks of its two fields
 abbrev pub named_value : Names → Epoch → ℕ → List ℕ → List ℕ → Object
 named_value names epoch place top bottom =
-    record {
-      object = names place;
-      version = 0;
-      see_through = (cue_at epoch.cues place).see_through;
-      top = top;
-      bottom = bottom;
-    }
+    object_with (names place) (cue_at epoch.cues place).see_through top bottom
 
 -- the segments of a set before its objects, with its CLUTs in an order
 abbrev pub named_leading : Names → Script → Epoch → PlannedSet → List SentClut → List SegmentValue

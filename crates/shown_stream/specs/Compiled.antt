@@ -19,13 +19,14 @@ use Rattle.sub_base.specs.declared.pace.Pace.{Pace}
 
 -- ---- how it is compiled
 
--- a script is compiled for receivers of a profile, on a PID and for a page
+-- what is asked of the compiler: a script, for receivers of a profile, on a PID and for a page
 pub record Compiling : Type 0 where
   pub profile : ProfileName
   pub pid : ℕ
   pub page : ℕ
   pub script : Script
 
+-- a script that is compiled for receivers of that profile, on that PID and for that page
 abbrev pub compiling_for : ProfileName → ℕ → ℕ → Script → Compiling
 compiling_for profile pid page script = record { profile = profile; pid = pid; page = page; script = script }
 

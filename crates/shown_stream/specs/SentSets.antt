@@ -12,11 +12,12 @@ abbrev pub sent_set : Timetable → ℕ → PlannedSet → SentSet
 sent_set table number set =
     record { time = set.pts; is_entry = is_entry_state set.state; places = slots_of table number }
 
--- sets from that number on, and all sets of a plan
+-- sets as they are sent, where the first has that number
 abbrev pub sent_from : Timetable → ℕ → List PlannedSet → List SentSet
 sent_from table number [] = []
 sent_from table number (set ∷ sets) = sent_set table number set ∷ sent_from table (number + 1) sets
 
+-- all sets of a plan as they are sent
 abbrev pub sent_sets : Timetable → List PlannedSet → List SentSet
 sent_sets table sets = sent_from table 0 sets
 

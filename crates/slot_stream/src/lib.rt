@@ -19,4 +19,4 @@ pub use kept::{KeptPackets, first_from};
 pub use laws::{later_pieces_leave_the_front, stream_begins_with_its_front};
 pub use piece::Piece;
 pub use pieces::push_units;
-pub use stream::{StreamFault, write_stream};
+pub use stream::{StreamFault, slot_count, write_stream};

@@ -1,7 +1,7 @@
 use std::marker::Model;
 
-/// A piece of a unit, as one transport packet takes it: 1 to 184 bytes, and whether the unit starts
-/// with it. It lends its bytes from the unit.
+/// A piece of a unit: its bytes, of which a packet takes 1 to 184 (`IsPiece`), and whether the unit
+/// starts with it. It lends its bytes from the unit.
 #[derive(Debug, Drop)]
 pub struct Piece<'a> {
     /// The bytes of the piece.

@@ -58,7 +58,7 @@ pub fn write_stream<K: Sink>(
 }
 
 /// How many slots there are up to the last one of the list.
-fn slot_count(slots: &[u64]) -> u64
+pub fn slot_count(slots: &[u64]) -> u64
     requires { slot_count_of slots.now < 2 ^ 64 }
     ensures { result ≡ slot_count_of slots.now }
 {

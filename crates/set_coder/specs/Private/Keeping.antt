@@ -7,7 +7,7 @@ use Rattle.set_coder.specs.declared.coded_picture.CodedPicture.{CodedPicture}
 use Rattle.set_coder.specs.declared.coded_picture.KeptBlocks.{KeptBlocks}
 use Rattle.set_coder.specs.declared.coded_picture.Slots.{Slots}
 use Rattle.stream_syntax.specs.FieldBlocks.{AreFieldSizes}
-use Rattle.set_coder.specs.declared.kept_blocks.TheConstants.{MOST_BYTES}
+use Rattle.sub_base.specs.declared.profile.TheConstants.{LARGEST_BUFFER}
 use Rattle.set_coder.specs.KeptBlocks.{AreLedTo}
 
 -- what was kept is the front of what is kept now
@@ -23,8 +23,8 @@ with_place slots Eight place = record slots { eight = Some place }
 -- the blocks of a picture for a region of that depth fit into the largest coded data buffer: they do by the picture's
 -- sides, or whatever sizes its fields have are no more
 abbrev pub FitsBuffer : Picture → Depth → Type 0
-FitsBuffer picture region = (70 + picture.height * (3 * picture.width + 10) ≤ 2 * MOST_BYTES)
-    ⊎ ((top bottom : ℕ) → AreFieldSizes picture region top bottom → top + bottom ≤ MOST_BYTES)
+FitsBuffer picture region = (70 + picture.height * (3 * picture.width + 10) ≤ 2 * LARGEST_BUFFER)
+    ⊎ ((top bottom : ℕ) → AreFieldSizes picture region top bottom → top + bottom ≤ LARGEST_BUFFER)
 
 -- what was kept before any further picture is the front of what is kept now, which slots lead to, and no slots are gone
 pub record HasGrown (old new : KeptBlocks) : Type 0 where

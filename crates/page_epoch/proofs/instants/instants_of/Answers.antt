@@ -7,7 +7,7 @@ use Rattle.page_epoch.proofs.InstantLaws.{AreRecordedInstantsUpTo, AreRecordedIn
 use Rattle.page_epoch.proofs.LastInstants.{AreRecordedInstantsUpTo-refreshed, AreRecordedInstantsUpTo-alone, AreRecordedInstants-all, small_there}
 use Rattle.std.proofs.lemmas.Bool.{false≢true}
 use Rattle.page_epoch.proofs.instants.instants_of.Goals as goal
-use Rattle.page_epoch.proofs.instants.instants_of.Goals.{then-i-len+then-show_cue+in_ok-push_refreshes, else-i-len, else-i-len-via-then-i-len+else-show_cue, else-i-len-via-else-i-len}
+use Rattle.page_epoch.proofs.instants.instants_of.Goals.{then-i-len+then-shows_cue+in_ok-push_refreshes, else-i-len, else-i-len-via-then-i-len+else-shows_cue, else-i-len-via-else-i-len}
 
 pub loop-i-init : goal.loop-i-init
 loop-i-init c =
@@ -27,7 +27,7 @@ loop-i-preserved c =
     subst (λ (xs : List Event). AreLeastEvents c.args.epochs.now xs) (sym c.deref-event-items.ensures.value)
     c.in_ok-events.ensures in
     elim c.if-i-len.branch [
-      | then-i-len+then-show_cue+in_ok-push_refreshes w ↦
+      | then-i-len+then-shows_cue+in_ok-push_refreshes w ↦
           subst (λ (xs : List Instant). AreRecordedInstantsUpTo c.args.epochs.now c.args.refresh events (i + 1) xs)
           (ap (λ instants. instants.items) (sym w.instants-is))
           (AreRecordedInstantsUpTo-refreshed c.args.epochs.now c.args.refresh events i c.loop-i.instants.items
@@ -37,17 +37,17 @@ loop-i-preserved c =
           (w.index.ensures
           ∙ ap (λ (xs : List Event). get_or xs (i + 1) w.index.result.now)
           (sym c.deref-event-items.ensures.value)) c.in_ok-push.ensures.items w.in_ok-push_refreshes.ensures
-          (sym (w.show_cue.ensures c.args.epochs.now c.in_ok-cues.ensures c.requires.lasting)
-          ∙ w.if-show_cue.true))
+          (sym (w.shows_cue.ensures c.args.epochs.now c.in_ok-cues.ensures c.requires.lasting)
+          ∙ w.if-shows_cue.true))
       | else-i-len w ↦
           AreRecordedInstantsUpTo-alone c.args.epochs.now c.args.refresh events i c.loop-i.instants.items _ m
           c.requires.some are c.loop-i.invariant (omega arith) r
           (ap (λ instants. instants.items) w.instants-is ∙ c.in_ok-push.ensures.items)
           (λ inside shown. elim w.else-i-len.branch [
-            | else-i-len-via-then-i-len+else-show_cue w' ↦ absurd
+            | else-i-len-via-then-i-len+else-shows_cue w' ↦ absurd
                 (false≢true
-                (sym w'.if-show_cue.false
-                ∙ w'.show_cue.ensures c.args.epochs.now c.in_ok-cues.ensures c.requires.lasting ∙ shown))
+                (sym w'.if-shows_cue.false
+                ∙ w'.shows_cue.ensures c.args.epochs.now c.in_ok-cues.ensures c.requires.lasting ∙ shown))
             | else-i-len-via-else-i-len w' ↦ absurd
                 (omega (arith, w'.if-i-len.false, inside, c.len.ensures, c.deref-event-items.ensures.len))
           ])

@@ -34,8 +34,8 @@ step_cluts-requires-clause-few c =
     (ap (λ (cluts : List ClutChanges). map (λ (clut : ClutChanges). clut.clut) cluts) c.as_slice-4.ensures
     ∙ c.requires.layout.cluts)
 
-pub shown-requires : goal.shown-requires
-shown-requires c =
+pub shown_ids-requires : goal.shown_ids-requires
+shown_ids-requires c =
     let lay = c.requires.layout in
     let long =
     ap length c.as_slice-7.ensures ∙ c.in_ok-regions.ensures.long ∙ ap length c.as_slice.ensures

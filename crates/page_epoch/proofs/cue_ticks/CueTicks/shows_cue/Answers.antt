@@ -2,7 +2,7 @@ use Rattle.std.proofs.Common.{◌∙◌, ℕ, List, nat_le, sym, ap, subst}
 use Rattle.std.specs.List.{count_by}
 use Rattle.std.specs.List.Sorted.{IsNonDecreasing}
 use Rattle.page_epoch.proofs.ShowLaws.{shown_by_counts}
-use Rattle.page_epoch.proofs.cue_ticks.CueTicks.show_cue.Goals as goal
+use Rattle.page_epoch.proofs.cue_ticks.CueTicks.shows_cue.Goals as goal
 
 pub returns : goal.returns
 returns c = λ epochs are lasting.
