@@ -8,7 +8,7 @@ use samples::first_run::{
     stream as first_run,
 };
 use samples::streams::{ENCODER_UNIT, packet_of, stream_of};
-use samples::words_of;
+use samples::{is_seen, words_of};
 use std::alloc::Global;
 use std::panic::Expect;
 use std::process::Abort;
@@ -384,16 +384,6 @@ struct Meeting {
     first: AtomicBool,
     second: AtomicBool,
     missed: AtomicU32,
-}
-
-/// Whether a flag is seen to be up, in at most 100,000,000 turns.
-fn is_seen(flag: &AtomicBool) -> bool {
-    for _ in 0..100_000_000 {
-        if flag.load(Ordering::SeqCst) {
-            return true;
-        }
-    }
-    false
 }
 
 impl BandGate for Meeting {

@@ -1,3 +1,5 @@
+ghost use Rattle.std.specs.Prelude.{◌≡◌, ◌*◌, length, OnOk};
+
 use crate::running::{Wanted, done, ends_as, reading, sound};
 use samples::first_run::{CHECK, LIST};
 use samples::streams::{ENCODER_UNIT, Sent, packet_of, put_unit};
@@ -23,7 +25,7 @@ fn pages(alloc: Global, count: u32, step: u32) -> Result<Vec<u8>, NoMemory> {
     let mut unit = Vec::new(alloc);
     let mut pts = 90_000u64;
     for _ in 0..count {
-        put_unit(&mut unit, pts, &OPEN)?;
+        put_unit(&mut unit, pts % (1 << 33), &OPEN)?;
         sent.push(unit.as_slice())?;
         pts = pts.saturating_add(u64::from(step));
     }
@@ -92,7 +94,9 @@ fn sets_without_an_end(rt: HostRuntime) {
 }
 
 /// Regions of 4 by 2 pixels, so many from that one on, whose ids go round.
-fn put_regions(segments: &mut Vec<u8>, first: u32, count: u32) -> Result<(), NoMemory> {
+fn put_regions(segments: &mut Vec<u8>, first: u32, count: u32) -> Result<(), NoMemory>
+    ensures { OnOk result (length segments.new.items ≡ 16 * count) }
+{
     segments.clear();
     for place in 0..count {
         let id = (first.wrapping_add(place) % 256) as u8;

@@ -2,14 +2,14 @@ use crate::same::same;
 use dvbsub_cmd::top;
 use live_plan::live_top;
 use page_pair::pair_top;
-use samples::words_of;
+use samples::{sink_of, source_of, words_of};
 use service_mux::{mux_top, take_top};
 use splice::splice_top;
 use std::alloc::Global;
 use std::panic::Expect;
 use std::process::Abort;
 use std::thread::Threads;
-use sub_base::{MemSink, MemSource, NoGate, NoMemory, Sink, Source};
+use sub_base::{MemSink, NoGate, Sink, Source};
 
 /// A command, and what its first and its second source hold.
 #[derive(Clone, Copy)]
@@ -67,29 +67,10 @@ pub(crate) fn run<R: Threads + Sync + Abort>(
     asked: &Asked<'_>,
     edges: Edges,
 ) -> Ended {
-    let mut first = source_of(alloc, asked.first, edges.most_read, edges.bad_read).expect(
-        rt, "memory",
-    );
-    let mut second = source_of(alloc, asked.second, edges.most_read, edges.bad_font_read).expect(
-        rt, "memory",
-    );
+    let most = edges.most_read.max(1);
+    let mut first = source_of(alloc, asked.first, most, edges.bad_read).expect(rt, "memory");
+    let mut second = source_of(alloc, asked.second, most, edges.bad_font_read).expect(rt, "memory");
     run_over(rt, alloc, asked.line, &mut first, &mut second, edges)
-}
-
-fn source_of(
-    alloc: Global,
-    bytes: &[u8],
-    most: usize,
-    bad_read: u64,
-) -> Result<MemSource, NoMemory> {
-    let bytes = Vec::from_slice(alloc, bytes)?;
-    let fails = vec![in alloc; bad_read]?;
-    Ok(MemSource::make(alloc, bytes, most.max(1), fails))
-}
-
-fn sink_of(alloc: Global, most: usize, bad_write: u64) -> Result<MemSink, NoMemory> {
-    let fails = vec![in alloc; bad_write]?;
-    Ok(MemSink::make(alloc, most.max(1), fails))
 }
 
 /// Carries out a command, or a tool of the second program, over any sources.
@@ -102,8 +83,9 @@ pub(crate) fn run_over<R: Threads + Sync + Abort, A: Source, B: Source>(
     edges: Edges,
 ) -> Ended {
     let words = words_of(alloc, line).expect(rt, "memory");
-    let mut out = sink_of(alloc, edges.most_written, edges.bad_write).expect(rt, "memory");
-    let mut notes = sink_of(alloc, edges.most_written, edges.bad_note).expect(rt, "memory");
+    let most = edges.most_written.max(1);
+    let mut out = sink_of(alloc, most, edges.bad_write).expect(rt, "memory");
+    let mut notes = sink_of(alloc, most, edges.bad_note).expect(rt, "memory");
     let code = if line.starts_with("mux ") {
         mux_top(alloc, &words, first, second, &mut out, &mut notes).code()
     } else if line.starts_with("take ") {

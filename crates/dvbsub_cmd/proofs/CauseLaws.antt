@@ -34,8 +34,8 @@ calm_input : (has_font : Bool) (a b c d : Supplied) (P : Script → Type 0) (run
     → IsInputCause has_font a b c d run → HasValidScript has_font a b c d P → IsWhole run
 calm_input has_font a b c d P (status.Done cut) cause calm = absurd cause
 calm_input has_font a b c d P status.Usage cause calm = absurd cause
-calm_input has_font a b c d P (status.FontRefused fault) cause calm = absurd (calm.font_right fault cause.0 cause.1)
-calm_input has_font a b c d P (status.ScriptRefused fault) cause calm = absurd (calm.script_right fault cause)
+calm_input has_font a b c d P (status.FontRefused fault) cause calm = absurd (calm.font_valid fault cause.0 cause.1)
+calm_input has_font a b c d P (status.ScriptRefused fault) cause calm = absurd (calm.script_valid fault cause)
 calm_input has_font a b c d P (status.PlanRefused fault) cause calm = absurd cause
 calm_input has_font a b c d P (status.ScheduleRefused row fault) cause calm = absurd cause
 calm_input has_font a b c d P (status.StreamRefused packet fault) cause calm = absurd cause

@@ -19,7 +19,8 @@ use Rattle.cue_list.proofs.FactLaws.{IsValidRow-from}
 use Rattle.grown_script_laws.specs.Growth.{Grows}
 use Rattle.shown_stream.specs.Compiled.{IsCompiledTo}
 use Rattle.live_plan.specs.LetIn.{IsScriptBehind, LetIn}
-use Rattle.live_plan.specs.LiveRows.{AHEAD, Inserter, IsBatchOf, RowOrTick, row, tick, due_front, has_epoch, last_tick, nearest_in, next_record, records_in, rows_in, slots_by, compiling_by}
+use Rattle.live_plan.specs.LiveRows.{Inserter, IsBatchOf, RowOrTick, row, tick, due_front, has_epoch, last_tick, nearest_in, next_record, records_in, rows_in, slots_by, compiling_by}
+use Rattle.live_plan.specs.declared.limits.TheConstants.{AHEAD}
 use Rattle.live_plan.proofs.DuePackets.{due_goes_on}
 use Rattle.live_plan.proofs.GrownScripts.{IsHead, IsLate, ListsScript, same_script_grows, script_grows, start_of}
 use Rattle.live_plan.proofs.TakenRows.{late_epoch, length-nearest, listed, nearest_more, row_late, row_let_in, row_right, still_epoch, tick_let_in, ticks_rise}
@@ -75,7 +76,7 @@ rows_grow inserter past cells time old new last let_in was now =
     let font = inserter.font in
     let kind = kind_of (cell_at cells 0) in
     let earlier = nearest_in past in
-    let lists = listed font past old was.right in
+    let lists = listed font past old was.valid in
     let is_in = row_let_in inserter past cells let_in in
     let begun = some_found (find (is kinds.Epoch) earlier) (epoch_of font earlier) lists.some_epoch in
     let many : 4 ≤ length earlier =
@@ -88,7 +89,7 @@ rows_grow inserter past cells time old new last let_in was now =
     let Next : List Record → Type 0 = λ rows. ListsScript font rows new in
     script_grows (time + AHEAD) font earlier (next_record past cells) old new
     (is_no_head inserter past kind many placed) late lists
-    (subst Next (nearest_more past cells) (listed font (row cells ∷ past) new now.right))
+    (subst Next (nearest_more past cells) (listed font (row cells ∷ past) new now.valid))
 
 -- ---- batches
 
@@ -146,8 +147,8 @@ both_batches inserter past later packets now stays (inr (some, old, right, compi
     inr (record {
       old = old;
       new = new;
-      was = record { epoch = some; right = right };
-      is = record { epoch = more; right = also };
+      was = record { epoch = some; valid = right };
+      is = record { epoch = more; valid = also };
       before = compiled;
       after = again;
     })
@@ -159,9 +160,9 @@ grown_batch : (inserter : Inserter) (past later : List RowOrTick) (time : ℕ) (
 grown_batch inserter past later time packets now scripts grows =
     let font = inserter.font in
     let own : scripts.old.origin ≡ origin_of inserter past =
-    (listed font past scripts.old scripts.was.right).origin_is in
+    (listed font past scripts.old scripts.was.valid).origin_is in
     let their : scripts.new.origin ≡ origin_of inserter later =
-    (listed font later scripts.new scripts.is.right).origin_is in
+    (listed font later scripts.new scripts.is.valid).origin_is in
     let goes_on = due_goes_on inserter.profile inserter.pid inserter.page scripts.old scripts.new time packets now grows
     scripts.before scripts.after in (
       (
@@ -204,8 +205,8 @@ row_goes_on inserter past (tick later) time packets now last let_in was is =
     by (inl none) = record { begins = nothing_begins inserter past time packets now none; origin = inl none }
     by (inr scripts) =
         let grows = same_script_grows (time + AHEAD) inserter.font (nearest_in past) scripts.old scripts.new
-        (listed inserter.font past scripts.old scripts.was.right)
-        (listed inserter.font past scripts.new scripts.is.right) in
+        (listed inserter.font past scripts.old scripts.was.valid)
+        (listed inserter.font past scripts.new scripts.is.valid) in
         let goes_on = grown_batch inserter past (tick later ∷ past) time packets now scripts grows in
         record { begins = goes_on.0; origin = inr goes_on.1 }
 row_goes_on inserter past (row cells) time packets now last let_in was is =
@@ -330,8 +331,8 @@ all_stand inserter past [] time packets let_in was = (
     }
     first now is (inr scripts) =
         let grows = same_script_grows (time + AHEAD) inserter.font (nearest_in past) scripts.old scripts.new
-        (listed inserter.font past scripts.old scripts.was.right)
-        (listed inserter.font past scripts.new scripts.is.right) in
+        (listed inserter.font past scripts.old scripts.was.valid)
+        (listed inserter.font past scripts.new scripts.is.valid) in
         let goes_on = grown_batch inserter past (tick time ∷ past) time packets now scripts grows in
         record { begins = goes_on.0; origin = inr goes_on.1 }
 all_stand inserter past (taken ∷ later) time packets let_in was =

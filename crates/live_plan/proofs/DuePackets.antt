@@ -30,7 +30,8 @@ use Rattle.shown_stream.specs.Compiled.{Compiling, IsCompiledTo, compiling_for, 
 use Rattle.sent_sets.specs.SentStream.{AreSizedAs}
 use Rattle.slot_stream.specs.SlotStream.{IsPiece, Piece, all_pieces, pieces_of, stream_of}
 use Rattle.slot_stream.proofs.FrontPackets.{all_are_pieces, front_stays}
-use Rattle.live_plan.specs.LiveRows.{AHEAD, slots_by}
+use Rattle.live_plan.specs.LiveRows.{slots_by}
+use Rattle.live_plan.specs.declared.limits.TheConstants.{AHEAD}
 use Rattle.live_plan.proofs.LateSlots.{first_slots, late_slots, more_slots, some_more}
 use Rattle.live_plan.proofs.ZippedLists.{all_first, as_long, beside_all, first_parts, same_beside, split}
 

@@ -192,9 +192,9 @@ rows_unsent inserter past script (refused.Records count) some right cause = caus
 rows_unsent inserter past script (refused.Script kind) some right cause = cause
 rows_unsent inserter past script (refused.Early horizon) some right cause = cause
 rows_unsent inserter past script (refused.Plan fault) some right cause =
-    record { epoch = some; script = script; right = right; cause = cause }
+    record { epoch = some; script = script; valid = right; cause = cause }
 rows_unsent inserter past script (refused.Schedule fault) some right (place, cause) =
-    record { epoch = some; script = script; right = right; place = place; cause = cause }
+    record { epoch = some; script = script; valid = right; place = place; cause = cause }
 
 -- ---- a record that is refused
 

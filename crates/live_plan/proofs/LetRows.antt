@@ -17,7 +17,7 @@ use Rattle.cue_list.specs.TickRows.{is_not_above, is_tick_row, tick_row_fault}
 use Rattle.set_coder.specs.GrownBlocks.{AreBlocksOf}
 use Rattle.live_plan.specs.LetIn.{LetIn}
 use Rattle.live_plan.specs.LiveCalls.{AnswersPiece, HasBlocks, HasLetIn, LiveState}
-use Rattle.live_plan.specs.LiveRows.{AHEAD, Inserter, IsBatchOf, IsDue, IsDueBy, IsLetIn, IsUnplanned, IsUnscheduled, RowOrTick, row, tick, before_tick, due_front, early_behind, early_of, early_tick, has_epoch, is_within, last_tick, nearest_in, next_record, records_in, row_fault, rows_in, slots_by, taken_as}
+use Rattle.live_plan.specs.LiveRows.{Inserter, IsBatchOf, IsDue, IsDueBy, IsLetIn, IsUnplanned, IsUnscheduled, RowOrTick, row, tick, before_tick, due_front, early_behind, early_of, early_tick, has_epoch, is_within, last_tick, nearest_in, next_record, records_in, row_fault, rows_in, slots_by, taken_as}
 use Rattle.live_plan.specs.Outlets.{IsOutletOf, OutletState}
 use Rattle.live_plan.specs.Private.Accepting.{AnswersRow, AreAccepted, CanSend, HasLeft, IsLive, IsNextRefused, IsNextTaken, IsRowRefused, IsSmallTick, horizon_over, inserter_in, live_of}
 use Rattle.live_plan.specs.Private.Loading.{HasRoomFor, loaded}
@@ -25,6 +25,7 @@ use Rattle.script_stream.specs.LeftPackets.{ArePacketsLeft}
 use Rattle.live_plan.specs.declared.accepted.Accepted.{Accepted}
 use Rattle.live_plan.specs.declared.faults.RowFault.{RowFault}
 use Rattle.live_plan.specs.declared.faults.RowFault.TheVariants as refused
+use Rattle.live_plan.specs.declared.limits.TheConstants.{AHEAD}
 use Rattle.script_stream.specs.declared.left.PacketsLeft.{PacketsLeft}
 use Rattle.live_plan.proofs.DueFronts.{slots_later}
 use Rattle.live_plan.proofs.DueRows.{batch_goes_on, due_begins, split_tick}
@@ -129,7 +130,7 @@ next_in old past cells left plain has taken = by left taken.has_left
 
     lets_in : (packets : List ℕ) → IsBatchOf inserter (row cells ∷ past) packets → IsLetIn inserter past cells
     lets_in packets batch = record {
-      right = plain_fault inserter.font past cells plain ∙ taken.right;
+      valid = plain_fault inserter.font past cells plain ∙ taken.valid;
       late = plain_early inserter.font past cells (last_tick past) plain
           ∙ ap (horizon_over (early_tick inserter.font past cells)) (sym has.last) ∙ taken.late;
       packets = packets;
@@ -301,7 +302,7 @@ tick_in old past cells slots is has tests slots_are =
     let time = value_at cells 1 in
     let same = tick_taken cells is in
     let lets : IsLetIn inserter past cells = record {
-      right = tick_tests inserter.font past cells is
+      valid = tick_tests inserter.font past cells is
           ∙ ap (λ (last : Option ℕ). tick_row_fault (looking_back inserter.font (nearest_in past)) last cells)
           (sym has.last)
           ∙ ap (λ (known : ScriptPast). tick_row_fault known old.last cells) (sym has.stands.found) ∙ tests;

@@ -21,7 +21,8 @@ use Rattle.cue_list.specs.declared.script.Script.{Script}
 use Rattle.cue_list.proofs.FactLaws.{IsValidRow-from}
 use Rattle.cue_records.proofs.TestLaws.{passed, right}
 use Rattle.live_plan.specs.LetIn.{LetIn}
-use Rattle.live_plan.specs.LiveRows.{AHEAD, Inserter, IsLetIn, RowOrTick, row, tick, early_behind, early_tick, has_epoch, is_within, last_tick, nearest_in, next_record, records_in, rows_in}
+use Rattle.live_plan.specs.LiveRows.{Inserter, IsLetIn, RowOrTick, row, tick, early_behind, early_tick, has_epoch, is_within, last_tick, nearest_in, next_record, records_in, rows_in}
+use Rattle.live_plan.specs.declared.limits.TheConstants.{AHEAD}
 
 -- ---- records
 
@@ -113,7 +114,7 @@ row_right inserter past cells is =
     let known = looking_back inserter.font (nearest_in past) in
     sym (ap (λ (b : Bool). if b then tick_row_fault known (last_tick past) cells
     else fault_of inserter.font (nearest_in past) (next_record past cells)) is.plain)
-    ∙ is.let_in.right
+    ∙ is.let_in.valid
 
 -- a tick that passes its tests lies above the last one
 pub tick_above : (known : ScriptPast) (last : Option ℕ) (cells : Row) → tick_row_fault known last cells ≡ None
@@ -135,7 +136,7 @@ ticks_rise inserter past time is =
     let tests : tick_row_fault known (last_tick past) cells ≡ None =
     sym (ap (λ (b : Bool). if b then tick_row_fault known (last_tick past) cells
     else fault_of font (nearest_in past) (next_record past cells)) is.is_tick)
-    ∙ is.let_in.right in
+    ∙ is.let_in.valid in
     ap (is_not_above (last_tick past)) (sym is.time_is) ∙ tick_above known (last_tick past) cells tests
 
 -- ---- the horizon

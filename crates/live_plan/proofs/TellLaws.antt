@@ -3,7 +3,9 @@ use Rattle.std.proofs.Common.{◌≡◌, ◌∙◌, ◌⊎◌, inl, inr, refl, s
 use Rattle.std.proofs.KnownBytes.{Appends-nil, Appends-trans, Keeps-refl}
 use Rattle.std.specs.Io.KnownBytes.{Consumes}
 use Rattle.bitmap_font.specs.Font.{FontValue}
-use Rattle.script_input.specs.ReadScript.{HasFont}
+use Rattle.script_input.specs.ReadScript.{HasFont, IsFontEnd}
+use Rattle.script_input.specs.declared.input_end.FontEnd.{FontEnd}
+use Rattle.script_input.specs.declared.input_end.FontEnd.TheVariants as font
 use Rattle.script_stream.proofs.ShownLaws.{compiled_is_shown}
 use Rattle.shown_stream.specs.Compiled.{IsCompiledFor}
 use Rattle.stream_syntax.specs.declared.wire.TheConstants.{NULL_PID}
@@ -21,14 +23,11 @@ use Rattle.live_plan.specs.FaultNames.{live_fault_name}
 use Rattle.live_plan.specs.LiveOutcome.{HasLiveCause, HasNotBegun, IsLiveDone, IsLiveEnd, IsLiveStopped, IsLiveUnread, IsLiveTold, Runs, TellsLive, inserter_of, live_causes}
 use Rattle.live_plan.specs.LiveRows.{Inserter, IsBatchOf, compiling_by}
 use Rattle.live_plan.specs.Pieces.{all_pieces, pieces_of, rest_only}
-use Rattle.live_plan.specs.Private.FontEnds.{IsFontEnd}
 use Rattle.live_plan.specs.Private.Running.{Begun, IsFinished, IsHalted, IsSentWhole}
 use Rattle.live_plan.specs.Private.RunningEnds.{IsLiveRun, IsRunEnd, IsToldSoFar, font_status, run_status}
 use Rattle.live_plan.specs.Private.RunningReads.{HasReadAll, IsCutShort, IsReadStop, IsRestTaken, IsUnreadRun}
 use Rattle.live_plan.specs.declared.faults.LiveFault.{LiveFault}
 use Rattle.live_plan.specs.declared.faults.LiveFault.TheVariants as live
-use Rattle.live_plan.specs.declared.font_input.FontEnd.{FontEnd}
-use Rattle.live_plan.specs.declared.font_input.FontEnd.TheVariants as font
 use Rattle.live_plan.specs.declared.live_words.LiveCommand.{LiveCommand}
 use Rattle.live_plan.specs.declared.run.Run.{Run}
 use Rattle.live_plan.specs.declared.run.Stop.{Stop}
@@ -231,7 +230,7 @@ font_ended command first second now_second out notes end cause = by end cause
     by : (end : FontEnd) → IsFontEnd command.has_font second now_second end
         → IsLiveRun command (seen first second out) (seen first now_second out) notes notes (Ok (font_status end))
     by (font.Refused fault) (named, cause) = ([], (named, cause, untouched), untold)
-    by font.Unread (named, rose) = ([], (named, rose, untouched), untold)
+    by font.Unread (named, rose, within) = ([], (named, rose, untouched), untold)
     by font.TooLong (named, past) = ([], (named, past, untouched), untold)
     by font.Memory is = ([], inl untouched, untold)
 

@@ -14,4 +14,4 @@ LetIn inserter (taken ∷ past) =
 -- the script of the rows that were let in
 pub record IsScriptBehind (inserter : Inserter) (past : List RowOrTick) (script : Script) : Type 0 where
   pub epoch : has_epoch (records_in past) ≡ true
-  pub right : IsScriptOf inserter.font (records_in past) script
+  pub valid : IsScriptOf inserter.font (records_in past) script

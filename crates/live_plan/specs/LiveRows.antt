@@ -23,6 +23,7 @@ use Rattle.shown_stream.specs.Compiled.{Compiling, IsCompiledTo, compiling_for}
 use Rattle.stream_syntax.specs.declared.wire.TheConstants.{PACKET_LENGTH}
 use Rattle.live_plan.specs.declared.faults.RowFault.{RowFault}
 use Rattle.live_plan.specs.declared.faults.RowFault.TheVariants as refused
+use Rattle.live_plan.specs.declared.limits.TheConstants.{AHEAD}
 
 -- ---- what was let in
 
@@ -75,11 +76,6 @@ taken_as cells = if is_tick_row cells then tick (value_at cells 1) else row cell
 
 -- ---- the horizon
 
--- how far the horizon lies ahead of a tick: packets come at most 450,000 ticks before their set is shown, and a refresh
--- lies at least 3,600 ticks before the next set
-abbrev pub AHEAD : ℕ
-AHEAD = 453600
-
 -- the first tick that a row has a part in, behind those that were let in
 abbrev pub early_tick : FontValue → List RowOrTick → Row → Option ℕ
 early_tick font past cells = first_tick (looking_back font (nearest_in past)) (kind_of (cell_at cells 0)) cells
@@ -116,14 +112,14 @@ pub record Inserter : Type 0 where
 pub record IsUnplanned (inserter : Inserter) (past : List RowOrTick) (fault : PlanFault) : Type 0 where
   pub epoch : has_epoch (records_in past) ≡ true
   pub script : Script
-  pub right : IsScriptOf inserter.font (records_in past) script
+  pub valid : IsScriptOf inserter.font (records_in past) script
   pub cause : IsPlanRefused inserter.profile script fault
 
 -- the schedule of its sets is refused
 pub record IsUnscheduled (inserter : Inserter) (past : List RowOrTick) (fault : ScheduleFault) : Type 0 where
   pub epoch : has_epoch (records_in past) ≡ true
   pub script : Script
-  pub right : IsScriptOf inserter.font (records_in past) script
+  pub valid : IsScriptOf inserter.font (records_in past) script
   pub place : ℕ
   pub cause : IsScheduleRefused inserter.profile script place fault
 
@@ -140,7 +136,7 @@ IsBatchOf inserter past packets =
 
 -- the row is let in: no test fails, it is not early, and the rows with it have a batch
 pub record IsLetIn (inserter : Inserter) (past : List RowOrTick) (cells : Row) : Type 0 where
-  pub right : row_fault inserter.font past cells ≡ None
+  pub valid : row_fault inserter.font past cells ≡ None
   pub late : early_of inserter.font past cells ≡ None
   pub packets : List ℕ
   pub batch : IsBatchOf inserter (taken_as cells ∷ past) packets

@@ -3,7 +3,6 @@ pub mod Running
 pub mod RunningReads
 pub mod RunningEnds
 pub mod Cutting
-pub mod FontEnds
 pub mod Loading
 pub mod Planning
 pub mod Accepting

@@ -7,6 +7,7 @@ ghost use Rattle.live_plan.specs.Private.Accepting.{AreAccepted, CanSend, HasAcc
 ghost use Rattle.live_plan.specs.Private.Planning.{KeepsBlocks};
 
 use crate::faults::RowFault;
+use crate::limits::AHEAD;
 use crate::planning::Target;
 use bitmap_font::Font;
 use csv::ByteRecord;
@@ -15,9 +16,6 @@ use script_stream::PacketsLeft;
 use set_coder::KeptBlocks;
 use std::alloc::Global;
 use sub_base::NoMemory;
-
-/// How far the horizon lies ahead of the last tick, in ticks of 90 kHz.
-const AHEAD: u64 = 453_600;
 
 /// The records that were accepted, and the blocks of their pictures.
 #[derive(Drop)]

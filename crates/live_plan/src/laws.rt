@@ -3,8 +3,9 @@ ghost use Rattle.cue_records.specs.Rows.{Row};
 ghost use Rattle.cue_list.specs.declared.script.Script.{Script};
 ghost use Rattle.grown_script_laws.specs.Growth.{Grows};
 ghost use Rattle.stream_syntax.specs.declared.wire.TheConstants.{PACKET_LENGTH};
+ghost use Rattle.live_plan.specs.declared.limits.TheConstants.{AHEAD};
 ghost use Rattle.live_plan.specs.LetIn.{IsScriptBehind, LetIn};
-ghost use Rattle.live_plan.specs.LiveRows.{due_front, last_tick, row, tick, Inserter, IsBatchOf, IsDue, RowOrTick, AHEAD};
+ghost use Rattle.live_plan.specs.LiveRows.{due_front, last_tick, row, tick, Inserter, IsBatchOf, IsDue, RowOrTick};
 
 /// A record that is let in goes on above the horizon of the last tick: what it adds to the script
 /// of the records before it lies above that tick and 453,600 more.

@@ -2,8 +2,9 @@
 //! refused at once, and packets go out as soon as no later record can change them.
 #![tactic(auto)]
 
-// Why a record is refused, and why a script has no stream.
+// Limits, why a record is refused, and why a script has no stream.
 mod faults;
+mod limits;
 
 // The packets that are not written yet.
 mod outlet;
@@ -22,8 +23,7 @@ mod live_words;
 // The bytes of a script in pieces.
 mod pieces;
 
-// The font that is named, and the line of a refused row.
-mod font_input;
+// The line of a refused row.
 mod told;
 
 // A run: pieces that go in, the reads that they come by, and the top call.
@@ -33,6 +33,7 @@ mod top;
 
 pub use faults::{LiveFault, RowFault};
 pub use laws::{due_stays, one_batch, one_due, rows_grow};
+pub use limits::AHEAD;
 pub use live::Live;
 pub use live_words::{LiveCommand, live_inputs};
 pub use outlet::{Outlet, slots_by};

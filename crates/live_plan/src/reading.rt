@@ -7,14 +7,12 @@ ghost use Rattle.live_plan.specs.Private.RunningReads.{AreTaken, HasReadAll, IsO
 
 use crate::pieces::Cutter;
 use crate::run::{Run, Stop};
+use script_input::TEXT_LIMIT;
 use sub_base::{ReadFailed, Sink, Source};
 
 /// How many bytes one read asks for: few, so that what is due does not wait for the rest of a long
 /// script.
 pub(crate) const READ_SIZE: usize = 4096;
-
-/// The most bytes of a script.
-const TEXT_LIMIT: u64 = 67_108_864;
 
 /// Reads a script to its end. Before each read all pieces went in that were whole, and what was due
 /// was written.

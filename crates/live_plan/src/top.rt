@@ -12,7 +12,6 @@ ghost use Rattle.sub_base.specs.Seen.{seen};
 ghost use Rattle.sub_base.specs.ToolOutcome.{IsToolWhole};
 
 use crate::faults::LiveFault;
-use crate::font_input::{FontEnd, read_font};
 use crate::live::Live;
 use crate::live_words::{LiveCommand, live_command_in};
 use crate::pieces::Cutter;
@@ -20,6 +19,7 @@ use crate::reading::{READ_SIZE, read_script, take_rest};
 use crate::run::{Run, Stop};
 use bitmap_font::Font;
 use command_text::tell_tool;
+use script_input::{FontEnd, read_font};
 use std::alloc::Global;
 use sub_base::{Sink, Source, ToolStatus, Which, Words, WriteFailed, zeros};
 

@@ -3,6 +3,7 @@ ghost use Rattle.std.specs.Prelude.{◌≡◌, ◌≤◌, true};
 use crate::same::same;
 use band_draw::draw;
 use page_core::{Core, SetEnd};
+use samples::is_seen;
 use std::alloc::Global;
 use std::panic::Expect;
 use std::process::Abort;
@@ -63,16 +64,6 @@ struct Meeting {
     first: AtomicBool,
     second: AtomicBool,
     met: AtomicU32,
-}
-
-/// Whether a flag is seen to be up, in at most 100,000,000 turns.
-fn is_seen(flag: &AtomicBool) -> bool {
-    for _ in 0..100_000_000 {
-        if flag.load(Ordering::SeqCst) {
-            return true;
-        }
-    }
-    false
 }
 
 impl BandGate for Meeting {

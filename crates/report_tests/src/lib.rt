@@ -6,10 +6,6 @@
 #[cfg(test)]
 mod same;
 
-// Sources, sinks and packets for a tool.
-#[cfg(test)]
-mod running;
-
 // What is wrong with the sets.
 #[cfg(test)]
 mod told_faults;

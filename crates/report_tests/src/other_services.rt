@@ -1,9 +1,8 @@
 //! Sets of services at the edges of what words may say.
 
-use crate::running::{sink_of, stream_of};
 use crate::same::same;
 use samples::streams::set_packet;
-use samples::words_of;
+use samples::{sink_of, source_of_packets, words_of};
 use std::alloc::Global;
 use std::panic::Expect;
 use std::process::Abort;
@@ -65,9 +64,9 @@ fn pictures_are_told<R: Threads + Sync + Abort>(rt: &R, alloc: Global, service: 
         rt, "memory",
     );
     let words = words_of(alloc, line.as_str()).expect(rt, "memory");
-    let mut stream = stream_of(rt, alloc, &two_sets(service), &[], 100, 0);
-    let mut out = sink_of(rt, alloc, 0);
-    let mut notes = sink_of(rt, alloc, 0);
+    let mut stream = source_of_packets(alloc, &two_sets(service), &[], 100, 0).expect(rt, "memory");
+    let mut out = sink_of(alloc, 1_000_000, 0).expect(rt, "memory");
+    let mut notes = sink_of(alloc, 1_000_000, 0).expect(rt, "memory");
     let told = pictures_top(
         rt,
         alloc,
@@ -89,9 +88,9 @@ fn faults_are_told<R: Abort>(rt: &R, alloc: Global, service: &Service) {
         rt, "memory",
     );
     let words = words_of(alloc, line.as_str()).expect(rt, "memory");
-    let mut stream = stream_of(rt, alloc, &two_sets(service), &[], 100, 0);
-    let mut out = sink_of(rt, alloc, 0);
-    let mut notes = sink_of(rt, alloc, 0);
+    let mut stream = source_of_packets(alloc, &two_sets(service), &[], 100, 0).expect(rt, "memory");
+    let mut out = sink_of(alloc, 1_000_000, 0).expect(rt, "memory");
+    let mut notes = sink_of(alloc, 1_000_000, 0).expect(rt, "memory");
     let told = faults_top(alloc, &words, &mut stream, &mut out, &mut notes);
     same(rt, told, ToolStatus::Done);
     let text = "sets 2 shown 2 waiting 0 broken 0 notlater 0 lost 0\n";
@@ -105,9 +104,9 @@ fn levels_are_told<R: Abort>(rt: &R, alloc: Global, service: &Service) {
         rt, "memory",
     );
     let words = words_of(alloc, line.as_str()).expect(rt, "memory");
-    let mut stream = stream_of(rt, alloc, &two_sets(service), &[], 100, 0);
-    let mut out = sink_of(rt, alloc, 0);
-    let mut notes = sink_of(rt, alloc, 0);
+    let mut stream = source_of_packets(alloc, &two_sets(service), &[], 100, 0).expect(rt, "memory");
+    let mut out = sink_of(alloc, 1_000_000, 0).expect(rt, "memory");
+    let mut notes = sink_of(alloc, 1_000_000, 0).expect(rt, "memory");
     let told = levels_top(alloc, &words, &mut stream, &mut out, &mut notes);
     same(rt, told, ToolStatus::Done);
     let text = "set 90000 shown 31 31\nset 180000 shown 31 90031\npeak 31\nbreach none\n";

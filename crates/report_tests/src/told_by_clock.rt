@@ -1,9 +1,8 @@
 //! The sets and levels of a stream, by the clock of the programme that lists the PID.
 
-use crate::running::{sink_of, stream_of};
 use crate::same::same;
 use samples::streams::{packet_of, set_packet};
-use samples::words_of;
+use samples::{sink_of, source_of_packets, words_of};
 use std::panic::Expect;
 use stream_report::levels_top;
 use sub_base::ToolStatus;
@@ -129,9 +128,9 @@ fn levels_by_the_clock(rt: HostRuntime) {
         let words = words_of(alloc, "levels sd 256 1 pcr stream.ts levels.txt").expect(
             &rt, "memory",
         );
-        let mut stream = stream_of(&rt, alloc, &packets, &[], 100, 0);
-        let mut out = sink_of(&rt, alloc, 0);
-        let mut notes = sink_of(&rt, alloc, 0);
+        let mut stream = source_of_packets(alloc, &packets, &[], 100, 0).expect(&rt, "memory");
+        let mut out = sink_of(alloc, 1_000_000, 0).expect(&rt, "memory");
+        let mut notes = sink_of(alloc, 1_000_000, 0).expect(&rt, "memory");
         let status = levels_top(alloc, &words, &mut stream, &mut out, &mut notes);
         same(&rt, status, ToolStatus::Done);
         same(&rt, out.written(), row.text.as_bytes());

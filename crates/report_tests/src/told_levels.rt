@@ -1,9 +1,8 @@
 //! The sets and levels of a stream, by the times at which its packets arrive.
 
-use crate::running::{sink_of, stream_of};
 use crate::same::same;
 use samples::streams::set_packet;
-use samples::words_of;
+use samples::{sink_of, source_of_packets, words_of};
 use std::alloc::Global;
 use std::panic::Expect;
 use std::process::Abort;
@@ -49,9 +48,9 @@ fn run<R: Abort>(
 ) -> Outcome {
     let [bad_read, bad_write] = failing;
     let words = words_of(alloc, text).expect(rt, "memory");
-    let mut stream = stream_of(rt, alloc, packets, more, 100, bad_read);
-    let mut out = sink_of(rt, alloc, bad_write);
-    let mut notes = sink_of(rt, alloc, 0);
+    let mut stream = source_of_packets(alloc, packets, more, 100, bad_read).expect(rt, "memory");
+    let mut out = sink_of(alloc, 1_000_000, bad_write).expect(rt, "memory");
+    let mut notes = sink_of(alloc, 1_000_000, 0).expect(rt, "memory");
     let status = levels_top(alloc, &words, &mut stream, &mut out, &mut notes);
     Outcome { status, out, notes }
 }

@@ -2,11 +2,10 @@
 
 ghost use Rattle.std.specs.Prelude.{◌≤◌};
 
-use crate::running::{sink_of, stream_of};
 use crate::same::same;
 use psi_tables::crc;
 use samples::streams::packet_of;
-use samples::words_of;
+use samples::{sink_of, source_of_packets, words_of};
 use std::alloc::Global;
 use std::panic::Expect;
 use std::process::Abort;
@@ -124,9 +123,9 @@ impl Tables {
 /// That `pids` tells this text of packets.
 fn is_told<R: Abort>(rt: &R, alloc: Global, packets: &[[u8; 188]], text: &[u8]) {
     let words = words_of(alloc, "pids stream.ts pids.txt").expect(rt, "memory");
-    let mut stream = stream_of(rt, alloc, packets, &[], 1_000, 0);
-    let mut out = sink_of(rt, alloc, 0);
-    let mut notes = sink_of(rt, alloc, 0);
+    let mut stream = source_of_packets(alloc, packets, &[], 1_000, 0).expect(rt, "memory");
+    let mut out = sink_of(alloc, 1_000_000, 0).expect(rt, "memory");
+    let mut notes = sink_of(alloc, 1_000_000, 0).expect(rt, "memory");
     let status = pids_top(alloc, &words, &mut stream, &mut out, &mut notes);
     same(&rt, status, ToolStatus::Done);
     same(&rt, notes.written(), b"done\n".as_slice());

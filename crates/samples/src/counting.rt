@@ -16,6 +16,7 @@ impl Counting {
     pub fn new(left: u64, byte: u8) -> Counting
         ensures none_given { result.given ≡ 0 }
         ensures all_left { result.left ≡ left }
+        ensures byte { result.byte ≡ byte }
     {
         Counting {
             left,

@@ -11,13 +11,16 @@ use Rattle.cue_list.specs.declared.fault.ScriptFault.TheVariants as script
 use Rattle.cue_list.specs.declared.script.Script.{Script}
 use Rattle.sub_base.specs.Counts.{HasRisen, HasRisenPast}
 use Rattle.sub_base.specs.Endpoints.{Supplied, WasRead}
+use Rattle.script_input.specs.declared.input_end.FontEnd.{FontEnd}
+use Rattle.script_input.specs.declared.input_end.FontEnd.TheVariants as font_end
 use Rattle.script_input.specs.declared.input_end.Input.TheVariants as input
 use Rattle.script_input.specs.declared.input_end.InputEnd.{InputEnd}
 use Rattle.script_input.specs.declared.input_end.InputEnd.TheVariants as end
+use Rattle.script_input.specs.declared.limits.TheConstants.{TEXT_LIMIT}
 
 -- the most bytes of a script, and of a font
 abbrev pub text_limit : ℕ
-text_limit = 67108864
+text_limit = TEXT_LIMIT
 
 -- the font without glyphs
 abbrev pub no_font : FontValue
@@ -39,7 +42,7 @@ pub record ReadsScript (has_font : Bool) (first_before first_now second_before s
   pub has : HasFont has_font second_before second_now font
   pub text : List ℕ
   pub read : WasRead text_limit first_before first_now text
-  pub right : IsScript text font script.origin script.width script.height script.refresh script.epochs script.pictures
+  pub valid : IsScript text font script.origin script.width script.height script.refresh script.epochs script.pictures
 
 -- the second source was read to its end, and is refused as a font
 abbrev pub IsFontRefused : FontFault → Supplied → Supplied → Type 0
@@ -64,6 +67,22 @@ IsScriptRefused has_font first_before first_now second_before second_now (script
 -- the source gave no more bytes than a script or a font may have
 abbrev pub IsTextWithin : Supplied → Supplied → Type 0
 IsTextWithin before now = now.given ≤ before.given + text_limit
+
+-- why the font that is named was not read; memory may want at any time
+abbrev pub IsFontEnd : Bool → Supplied → Supplied → FontEnd → Type 0
+IsFontEnd has_font before now (font_end.Refused fault) = (has_font ≡ true) × IsFontRefused fault before now
+IsFontEnd has_font before now font_end.Unread =
+    (has_font ≡ true) × HasRisen before.faults now.faults × IsTextWithin before now
+IsFontEnd has_font before now font_end.TooLong =
+    (has_font ≡ true) × HasRisenPast text_limit before.given now.given
+IsFontEnd has_font before now font_end.Memory = Unit {0}
+
+-- why no script was read where its font was not
+abbrev pub end_without_font : FontEnd → InputEnd
+end_without_font (font_end.Refused fault) = end.FontRefused fault
+end_without_font font_end.Unread = end.Unread input.Font
+end_without_font font_end.TooLong = end.TooLong input.Font
+end_without_font font_end.Memory = end.Memory
 
 -- why no script was read. The font is read first: a fault of the second source comes before the first one is
 -- called, and a fault of the first source with a font that is valid
@@ -92,8 +111,8 @@ pub record HasValidScript (has_font : Bool) (first_before first_now second_befor
   pub second_read : has_font ≡ true → HasRisen second_before.faults second_now.faults → ⊥
   pub first_within : HasRisenPast text_limit first_before.given first_now.given → ⊥
   pub second_within : has_font ≡ true → HasRisenPast text_limit second_before.given second_now.given → ⊥
-  pub font_right : (fault : FontFault) → has_font ≡ true → IsFontRefused fault second_before second_now → ⊥
-  pub script_right : (fault : ScriptFault)
+  pub font_valid : (fault : FontFault) → has_font ≡ true → IsFontRefused fault second_before second_now → ⊥
+  pub script_valid : (fault : ScriptFault)
       → IsScriptRefused has_font first_before first_now second_before second_now fault → ⊥
   pub goes_on : (script : Script) → ReadsScript has_font first_before first_now second_before second_now script
       → P script

@@ -10,6 +10,19 @@ pub enum Input {
     Font,
 }
 
+/// Why no font was read.
+#[derive(Clone, Copy, Debug, PartialEq, Eq, Drop)]
+pub enum FontEnd {
+    /// It is refused; its fault is never want of memory.
+    Refused(FontFault),
+    /// Its source could not be read.
+    Unread,
+    /// Its source gave more bytes than a font may have.
+    TooLong,
+    /// No memory was found.
+    Memory,
+}
+
 /// Why no script was read.
 #[derive(Clone, Copy, Debug, PartialEq, Eq, Drop)]
 pub enum InputEnd {

@@ -2,7 +2,9 @@
 #![tactic(auto)]
 
 mod input_end;
+mod limits;
 mod reading;
 
-pub use input_end::{Input, InputEnd};
-pub use reading::read_script;
+pub use input_end::{FontEnd, Input, InputEnd};
+pub use limits::TEXT_LIMIT;
+pub use reading::{read_font, read_script};

@@ -1,15 +1,12 @@
 ghost use Rattle.std.specs.Prelude.{◌≡◌, false, IfOk, IfErr};
-ghost use Rattle.script_input.specs.ReadScript.{HasFont, ReadsScript, IsInputEnd};
-ghost use Rattle.sub_base.specs.Endpoints.{Supplied};
+ghost use Rattle.script_input.specs.ReadScript.{HasFont, IsFontEnd, IsInputEnd, ReadsScript, end_without_font};
 
-use crate::input_end::{Input, InputEnd};
+use crate::input_end::{FontEnd, Input, InputEnd};
+use crate::limits::TEXT_LIMIT;
 use bitmap_font::{Font, FontFault};
 use cue_list::{Script, ScriptFault};
 use std::alloc::Global;
 use sub_base::{ReadAllFault, Source, read_all};
-
-/// The most bytes of a script, and of a font.
-const TEXT_LIMIT: u64 = 67_108_864;
 
 /// The script that is in the first source, in the font that is in the second one, or in the font
 /// without glyphs where no font is named. The font is read first, and the second source is not
@@ -33,9 +30,9 @@ pub fn read_script<A: Source, B: Source>(
     ensures second { has_font ≡ false → second.new ≡ second.old }
 {
     // The font first, so that a faulty one is reported even where the script is faulty too.
-    let font = match font_of(alloc, has_font, second) {
+    let font = match read_font(alloc, has_font, second) {
         Ok(font) => font,
-        Err(end) => return Err(end),
+        Err(end) => return Err(without_font(end)),
     };
     let text = match read_all(alloc, first, TEXT_LIMIT) {
         Ok(text) => text,
@@ -52,31 +49,40 @@ pub fn read_script<A: Source, B: Source>(
     }
 }
 
-/// The font that is named, or the one without glyphs.
-fn font_of<B: Source>(alloc: Global, has_font: bool, second: &mut B) -> Result<Font, InputEnd>
-    ensures font { IfOk result (HasFont has_font
-        (B.supplied second.old)
-        (B.supplied second.new)) }
+/// The font that is named, or the one without glyphs: then the source is not called.
+pub fn read_font<B: Source>(alloc: Global, has_font: bool, source: &mut B) -> Result<Font, FontEnd>
+    ensures font { IfOk result
+        (HasFont has_font (B.supplied source.old) (B.supplied source.new)) }
     ensures cause { IfErr result
-        (λ end. (first : Supplied) → IsInputEnd has_font first first
-        (B.supplied second.old)
-        (B.supplied second.new) end) }
-    ensures second { has_font ≡ false → second.new ≡ second.old }
+        (IsFontEnd has_font (B.supplied source.old) (B.supplied source.new)) }
+    ensures left { has_font ≡ false → source.new ≡ source.old }
 {
     if !has_font {
         return Ok(Font::empty(alloc));
     }
-    let text = match read_all(alloc, second, TEXT_LIMIT) {
+    let text = match read_all(alloc, source, TEXT_LIMIT) {
         Ok(text) => text,
-        Err(ReadAllFault::Memory) => return Err(InputEnd::Memory),
-        Err(ReadAllFault::Read) => return Err(InputEnd::Unread(Input::Font)),
-        Err(ReadAllFault::TooLong) => return Err(InputEnd::TooLong(Input::Font)),
+        Err(ReadAllFault::Memory) => return Err(FontEnd::Memory),
+        Err(ReadAllFault::Read) => return Err(FontEnd::Unread),
+        Err(ReadAllFault::TooLong) => return Err(FontEnd::TooLong),
     };
     match Font::read(alloc, text.as_slice()) {
         Ok(font) => Ok(font),
-        Err(FontFault::Memory) => Err(InputEnd::Memory),
+        Err(FontFault::Memory) => Err(FontEnd::Memory),
         Err(FontFault::Refused { line, kind }) => {
-            Err(InputEnd::FontRefused(FontFault::Refused { line, kind }))
+            Err(FontEnd::Refused(FontFault::Refused { line, kind }))
         }
+    }
+}
+
+/// Why no script was read where its font was not.
+fn without_font(end: FontEnd) -> InputEnd
+    ensures { result ≡ end_without_font end }
+{
+    match end {
+        FontEnd::Refused(fault) => InputEnd::FontRefused(fault),
+        FontEnd::Unread => InputEnd::Unread(Input::Font),
+        FontEnd::TooLong => InputEnd::TooLong(Input::Font),
+        FontEnd::Memory => InputEnd::Memory,
     }
 }

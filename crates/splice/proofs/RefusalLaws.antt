@@ -7,7 +7,7 @@ use Rattle.std.proofs.lemmas.List.{reverse-append}
 use Rattle.sent_sets.specs.RawSets.{RawSet}
 use Rattle.splice.specs.KeptSets.{kept_sets}
 use Rattle.splice.specs.SplicedSets.{Streams, first_reception, is_before, second_reception}
-use Rattle.splice.specs.SplicedStream.{AreBothTaken, AreGood, CLOSE, FAR, HasDistance, IsLastBefore}
+use Rattle.splice.specs.SplicedStream.{AreBothTaken, AreGood, HasDistance, IsLastBefore}
 use Rattle.splice.specs.StreamTests.{BeginsAnew}
 use Rattle.splice.specs.Private.JoinedSets.{HasSets, IsJoinedOf, IsLastTime}
 use Rattle.splice.specs.Private.Parts.{placed}
@@ -19,6 +19,7 @@ use Rattle.splice.specs.declared.found.Found.{Found}
 use Rattle.splice.specs.declared.found.Survey.{Survey}
 use Rattle.splice.specs.declared.found.Survey.TheVariants.{Refused, Whole}
 use Rattle.splice.specs.declared.joined.Joined.{Joined}
+use Rattle.splice.specs.declared.limits.TheConstants.{TOO_CLOSE, TOO_FAR}
 use Rattle.splice.specs.declared.part.Part.TheVariants.{Before, From}
 use Rattle.splice.specs.declared.splice_fault.SpliceFault.TheVariants as fault
 use Rattle.splice.specs.declared.splice_words.Splicing.{Splicing}
@@ -86,20 +87,21 @@ by_distance : (splicing : Splicing) (streams : Streams) (last : ℕ) (joined : J
     → IsSeam splicing streams (Some last) joined
     → IsRefusalOf splicing streams joined (fault_of_distance splicing.cut last)
 by_distance splicing streams last joined seam =
-    by (nat_le (splicing.cut - last) CLOSE) (nat_le FAR (splicing.cut - last)) refl refl
+    by (nat_le (splicing.cut - last) TOO_CLOSE) (nat_le TOO_FAR (splicing.cut - last)) refl refl
   where
-    by : (close far : Bool) → nat_le (splicing.cut - last) CLOSE ≡ close → nat_le FAR (splicing.cut - last) ≡ far
+    by : (close far : Bool) → nat_le (splicing.cut - last) TOO_CLOSE ≡ close
+        → nat_le TOO_FAR (splicing.cut - last) ≡ far
         → IsRefusalOf splicing streams joined
         (cond close (Some (fault.CutTooClose last)) (cond far (Some (fault.CutTooFar last)) None))
     by true far is far_is =
-        let close : splicing.cut ≤ last + CLOSE = grind (arith, nat_tests) in
+        let close : splicing.cut ≤ last + TOO_CLOSE = grind (arith, nat_tests) in
         (seam.good, seam.anew, last_before splicing streams last seam.last_is, close)
     by false true is far_is =
-        let far : last + FAR ≤ splicing.cut = grind (arith, nat_tests) in
+        let far : last + TOO_FAR ≤ splicing.cut = grind (arith, nat_tests) in
         (seam.good, seam.anew, last_before splicing streams last seam.last_is, far)
     by false false is far_is =
-        let close : last + CLOSE < splicing.cut = grind (arith, nat_tests) in
-        let far : splicing.cut < last + FAR = grind (arith, nat_tests) in
+        let close : last + TOO_CLOSE < splicing.cut = grind (arith, nat_tests) in
+        let far : splicing.cut < last + TOO_FAR = grind (arith, nat_tests) in
         can_be_joined splicing streams (Some last) joined seam
         (λ other too. let same = only_last splicing streams last other seam.last_is too in
         (omega (arith, same, close), omega (arith, same, far)))

@@ -13,9 +13,9 @@ use Rattle.schedule.specs.Refusals.{IsScheduleCause}
 use Rattle.schedule.specs.declared.fault.ScheduleFault.{ScheduleFault}
 use Rattle.schedule.specs.declared.fault.ScheduleFault.TheVariants.{Memory}
 use Rattle.splice.specs.SplicedSets.{Streams, IsLoadOf, first_reception, second_reception, splice_pace, spliced_sets}
-use Rattle.splice.specs.SplicedStream.{AreBothTaken, AreGood, AreWhole, CLOSE, CanBeJoined, FAR, IsLastBefore, IsShownAsBefore, IsSplicedTo}
+use Rattle.splice.specs.SplicedStream.{AreBothTaken, AreGood, AreWhole, CanBeJoined, IsLastBefore, IsShownAsBefore, IsSplicedTo}
 use Rattle.splice.specs.StreamTests.{AreSetsShown, CanBeTaken, BeginsAnew, IsFirstLost, IsFirstRefused, IsFirstUnshown, IsLossless}
-use Rattle.splice.specs.declared.limits.TheConstants.{SPLICE_LIMIT}
+use Rattle.splice.specs.declared.limits.TheConstants.{SPLICE_LIMIT, TOO_CLOSE, TOO_FAR}
 use Rattle.splice.specs.declared.splice_fault.SpliceFault.{SpliceFault}
 use Rattle.splice.specs.declared.splice_fault.SpliceFault.TheVariants as splice
 use Rattle.splice.specs.declared.splice_words.Splicing.{Splicing}
@@ -85,10 +85,10 @@ IsSpliceRefused splicing streams splice.NoModeChange =
     AreGood splicing streams × (BeginsAnew (second_reception splicing) streams.second → ⊥)
 IsSpliceRefused splicing streams (splice.CutTooClose last) =
     AreGood splicing streams × BeginsAnew (second_reception splicing) streams.second
-    × IsLastBefore splicing streams last × (splicing.cut ≤ last + CLOSE)
+    × IsLastBefore splicing streams last × (splicing.cut ≤ last + TOO_CLOSE)
 IsSpliceRefused splicing streams (splice.CutTooFar last) =
     AreGood splicing streams × BeginsAnew (second_reception splicing) streams.second
-    × IsLastBefore splicing streams last × (last + FAR ≤ splicing.cut)
+    × IsLastBefore splicing streams last × (last + TOO_FAR ≤ splicing.cut)
 IsSpliceRefused splicing streams (splice.Schedule fault) = IsSplicedUnscheduled splicing streams fault
 
 -- ---- causes

@@ -1,5 +1,5 @@
 -- Two streams that are joined at a cut: when they can be, the packets of the result, and what it shows.
-use Rattle.std.specs.Prelude.{◌≡◌, ℕ, ◌+◌, ◌-◌, ◌<◌, ◌≤◌, ◌^◌, true, List, [], ◌∷◌, ◌++◌, length, filter, All, Some, None}
+use Rattle.std.specs.Prelude.{◌≡◌, ℕ, ◌+◌, ◌-◌, ◌<◌, ◌≤◌, true, List, [], ◌∷◌, ◌++◌, length, filter, All, Some, None}
 use Rattle.std.specs.List.{AllZip}
 use Rattle.sub_base.specs.declared.load.WriteLoad.{WriteLoad}
 use Rattle.stream_syntax.specs.declared.wire.TheConstants.{TIME_ROUND}
@@ -12,6 +12,7 @@ use Rattle.sent_sets.specs.SentStream.{IsSentTo}
 use Rattle.splice.specs.KeptSets.{kept_sets}
 use Rattle.splice.specs.SplicedSets.{Streams, IsLoadOf, begin_of, first_reception, is_before, received_from, second_reception, splice_pace, spliced_sets}
 use Rattle.splice.specs.StreamTests.{AreSetsShown, CanBeTaken, BeginsAnew, IsLossless}
+use Rattle.splice.specs.declared.limits.TheConstants.{TOO_CLOSE, TOO_FAR}
 use Rattle.splice.specs.declared.splice_words.Splicing.{Splicing}
 
 -- ---- streams that can be joined
@@ -40,18 +41,10 @@ pub record IsLastBefore (splicing : Splicing) (streams : Streams) (last : ℕ) :
       ≡ before ++ set ∷ []
   pub time : last ≡ set.time
 
--- the cut is too close behind a set with so many ticks, or less: 40 ms
-abbrev pub CLOSE : ℕ
-CLOSE = 3600
-
--- and too far with so many, or more: half a round of a presentation time
-abbrev pub FAR : ℕ
-FAR = 2 ^ 32
-
 -- the first stream's last set before the cut, where there is one, is neither too close to the cut nor too far from it
 abbrev pub HasDistance : Splicing → Streams → Type 0
 HasDistance splicing streams = (last : ℕ) → IsLastBefore splicing streams last
-    → (last + CLOSE < splicing.cut) × (splicing.cut < last + FAR)
+    → (last + TOO_CLOSE < splicing.cut) × (splicing.cut < last + TOO_FAR)
 
 -- both streams are good, the second begins with a mode change, and the cut has its distance
 pub record CanBeJoined (splicing : Splicing) (streams : Streams) : Type 0 where

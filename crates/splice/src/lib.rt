@@ -34,6 +34,6 @@ mod laws;
 
 pub use joining::splice_top;
 pub use laws::spliced_is_shown;
-pub use limits::SPLICE_LIMIT;
+pub use limits::{SPLICE_LIMIT, TOO_CLOSE, TOO_FAR};
 pub use splice_fault::SpliceFault;
 pub use splice_words::{Splicing, splice_inputs};

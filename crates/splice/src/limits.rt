@@ -2,8 +2,8 @@
 pub const SPLICE_LIMIT: u64 = 67_108_864;
 
 /// How many ticks of 90 kHz a set lies before the cut at the most to be too close to it: 40 ms.
-pub(crate) const CLOSE_TICKS: u64 = 3_600;
+pub const TOO_CLOSE: u64 = 3_600;
 
 /// How many it lies before it at the least to be too far from it: half a round of a presentation
 /// time.
-pub(crate) const FAR_TICKS: u64 = 4_294_967_296;
+pub const TOO_FAR: u64 = 4_294_967_296;

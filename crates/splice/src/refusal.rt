@@ -11,7 +11,7 @@ ghost use Rattle.splice.specs.declared.found.Finding.TheVariants.{Good, Unshown}
 ghost use Rattle.splice.specs.declared.joined.Joined.{Joined};
 
 use crate::found::{Finding, Survey};
-use crate::limits::{CLOSE_TICKS, FAR_TICKS};
+use crate::limits::{TOO_CLOSE, TOO_FAR};
 use crate::splice_fault::SpliceFault;
 use crate::splice_words::Splicing;
 
@@ -128,9 +128,9 @@ fn fault_of_distance(cut: u64, last: u64) -> Option<SpliceFault>
     ensures { result ≡ distance_fault cut last }
 {
     let distance = cut.saturating_sub(last);
-    if distance <= CLOSE_TICKS {
+    if distance <= TOO_CLOSE {
         Some(SpliceFault::CutTooClose { last })
-    } else if distance >= FAR_TICKS {
+    } else if distance >= TOO_FAR {
         Some(SpliceFault::CutTooFar { last })
     } else {
         None

@@ -121,3 +121,9 @@ MayEndAs tool.Levels words code = MayToolEnd levels_causes (levels_words words) 
 abbrev pub HasToolCode : Option Tool → List (List ℕ) → ℕ → Type 0
 HasToolCode None words code = code ≡ 2
 HasToolCode (Some named) words code = MayEndAs named words code
+
+-- the code of the program: that of the tool that its words name; or 2 where a word is no text in UTF-8, and 7 where no
+-- memory was found for the words
+abbrev pub HasToolRunCode : ℕ → Type 0
+HasToolRunCode code =
+    ((words : List (List ℕ)) × HasToolCode (named_tool words) words code) ⊎ ((code ≡ 2) ⊎ (code ≡ 7))

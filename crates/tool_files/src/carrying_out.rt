@@ -1,5 +1,5 @@
 ghost use Rattle.std.specs.Prelude.{◌≡◌, false};
-ghost use Rattle.tool_files.specs.Ends.{HasToolCode, MayEndAs, is_command, named_tool as named_tool_of};
+ghost use Rattle.tool_files.specs.Ends.{HasToolCode, HasToolRunCode, MayEndAs, is_command, named_tool as named_tool_of};
 
 use crate::live::live;
 use crate::multiplexes::{mux, take};
@@ -15,7 +15,9 @@ use sub_base::{ToolStatus, Words};
 
 /// Carries out the tool that the words of the command line name, and answers the code of its
 /// status. Words that are no text in UTF-8 are a wrong command line.
-pub fn run<T: Threads + Sync>(rt: &HostRuntime, threads: &T) -> u8 {
+pub fn run<T: Threads + Sync>(rt: &HostRuntime, threads: &T) -> u8
+    ensures { HasToolRunCode result }
+{
     match words_of(rt) {
         Ok(words) => carry_out(rt, threads, &words),
         Err(WordsFault::Memory) => tell_on(rt, without_a_tool(ToolStatus::Memory), false),

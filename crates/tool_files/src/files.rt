@@ -6,7 +6,8 @@ use program_files::{Output, numbers_of, opened, output_name, tool_ended, word_at
 use std::fs::File;
 use sub_base::{FaultName, FileSource, ToolStatus, Words};
 
-/// The files of a tool: its inputs, of which there may be none at a place, and its output.
+/// The files of a tool: its inputs, of which there may be none at a place, and its output. When
+/// that is made, and when it takes the place of what was there, is said at `Output`.
 #[derive(Drop)]
 pub(crate) struct ToolFiles<'a> {
     pub first: FileSource<File>,
@@ -15,8 +16,7 @@ pub(crate) struct ToolFiles<'a> {
 }
 
 impl<'a> ToolFiles<'a> {
-    /// Opens the inputs that stand at these places of the words. The output is made with the first
-    /// byte that is written to it, and takes the place of what was there at the end.
+    /// Opens the inputs that stand at these places of the words. The output is an `Output::whole`.
     pub(crate) fn of(rt: &'a HostRuntime, words: &'a Words, places: InputPlaces) -> ToolFiles<'a> {
         let opened = Opened::at(rt, words, places);
         let output = Output::whole(
@@ -28,7 +28,7 @@ impl<'a> ToolFiles<'a> {
         opened.with(output)
     }
 
-    /// The same, with an output that is written as it comes: its reader waits for it.
+    /// The same with an `Output::as_it_comes`.
     pub(crate) fn as_it_comes(
         rt: &'a HostRuntime,
         words: &'a Words,

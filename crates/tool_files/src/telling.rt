@@ -67,6 +67,6 @@ fn told_table<F: FaultName + Copy, E: Sink>(status: ToolStatus<F>, errors: &mut 
         → WroteNothing (E.received errors.old) (E.received errors.new) }
 {
     if let ToolStatus::Usage = status {
-        let _ = tell_table(errors, TOOLS);
+        tell_table(errors, TOOLS);
     }
 }

@@ -2,9 +2,8 @@
 
 ghost use Rattle.std.specs.Prelude.{◌≤◌};
 
-use crate::running::{sink_of, source_of, stream_of};
 use crate::same::same;
-use samples::words_of;
+use samples::{sink_of, source_of, source_of_packets, words_of};
 use service_mux::{MuxFault, mux_top, take_top};
 use std::alloc::Global;
 use std::panic::Expect;
@@ -62,10 +61,12 @@ fn run<R: Abort>(
     requires { 1 ≤ most }
 {
     let words = words_of(alloc, text).expect(rt, "memory");
-    let mut first = stream_of(rt, alloc, first, &[], most, failing.first);
-    let mut second = stream_of(rt, alloc, second, &[], most, failing.second);
-    let mut out = sink_of(rt, alloc, failing.out);
-    let mut notes = sink_of(rt, alloc, failing.notes);
+    let mut first = source_of_packets(alloc, first, &[], most, failing.first).expect(rt, "memory");
+    let mut second = source_of_packets(alloc, second, &[], most, failing.second).expect(
+        rt, "memory",
+    );
+    let mut out = sink_of(alloc, 1_000_000, failing.out).expect(rt, "memory");
+    let mut notes = sink_of(alloc, 1_000_000, failing.notes).expect(rt, "memory");
     let status = mux_top(alloc, &words, &mut first, &mut second, &mut out, &mut notes);
     Outcome { status, out, notes }
 }
@@ -196,9 +197,9 @@ fn services_are_taken_out_again(rt: HostRuntime) {
         ("take 2 both.ts out.ts", second_packets().as_slice()),
     ] {
         let words = words_of(alloc, line).expect(&rt, "memory");
-        let mut stream = source_of(&rt, alloc, muxed.out.written(), 1_000);
-        let mut out = sink_of(&rt, alloc, 0);
-        let mut notes = sink_of(&rt, alloc, 0);
+        let mut stream = source_of(alloc, muxed.out.written(), 1_000, 0).expect(&rt, "memory");
+        let mut out = sink_of(alloc, 1_000_000, 0).expect(&rt, "memory");
+        let mut notes = sink_of(alloc, 1_000_000, 0).expect(&rt, "memory");
         let status = take_top(alloc, &words, &mut stream, &mut out, &mut notes);
         same(&rt, status, ToolStatus::Done);
         same(&rt, out.written(), wanted.as_flattened());

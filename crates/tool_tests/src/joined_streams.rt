@@ -1,8 +1,7 @@
 //! Two streams that are joined at a cut.
 
-use crate::running::{sink_of, stream_of};
 use crate::same::{same, same_at};
-use samples::words_of;
+use samples::{sink_of, source_of_packets, words_of};
 use splice::{SpliceFault, splice_top};
 use std::alloc::Global;
 use std::panic::Expect;
@@ -83,10 +82,14 @@ pub(crate) fn join<R: Abort>(
 ) -> Outcome {
     let words = words_of(alloc, text).expect(rt, "memory");
     let [first_read, second_read, bad_write] = fails;
-    let mut first = stream_of(rt, alloc, first, &[0x47; 100], 100, first_read);
-    let mut second = stream_of(rt, alloc, second, &[0x47; 100], 1_000, second_read);
-    let mut out = sink_of(rt, alloc, bad_write);
-    let mut notes = sink_of(rt, alloc, 0);
+    let mut first = source_of_packets(alloc, first, &[0x47; 100], 100, first_read).expect(
+        rt, "memory",
+    );
+    let mut second = source_of_packets(alloc, second, &[0x47; 100], 1_000, second_read).expect(
+        rt, "memory",
+    );
+    let mut out = sink_of(alloc, 1_000_000, bad_write).expect(rt, "memory");
+    let mut notes = sink_of(alloc, 1_000_000, 0).expect(rt, "memory");
     let status = splice_top(alloc, &words, &mut first, &mut second, &mut out, &mut notes);
     Outcome { status, out, notes }
 }

@@ -7,10 +7,6 @@
 #[cfg(test)]
 mod same;
 
-// Words, sources, sinks and packets for a command.
-#[cfg(test)]
-mod running;
-
 // Services taken out of a multiplex, and two streams joined to one.
 #[cfg(test)]
 mod joined_services;

@@ -2,12 +2,11 @@
 
 ghost use Rattle.std.specs.Prelude.{◌≤◌};
 
-use crate::running::{sink_of, source_of};
 use crate::same::same;
 use bitmap_font::Font;
 use cue_list::Script;
 use live_plan::{LiveFault, live_top};
-use samples::words_of;
+use samples::{sink_of, source_of, words_of};
 use script_stream::compile_script;
 use std::alloc::Global;
 use std::panic::Expect;
@@ -65,9 +64,9 @@ fn run<R: Abort>(
     bad_line: u64,
 ) -> Outcome {
     let words = words_of(alloc, LIVE).expect(rt, "memory");
-    let mut second = source_of(rt, alloc, &[], 1);
-    let mut out = sink_of(rt, alloc, bad_write);
-    let mut notes = sink_of(rt, alloc, bad_line);
+    let mut second = source_of(alloc, &[], 1, 0).expect(rt, "memory");
+    let mut out = sink_of(alloc, 1_000_000, bad_write).expect(rt, "memory");
+    let mut notes = sink_of(alloc, 1_000_000, bad_line).expect(rt, "memory");
     let status = live_top(alloc, &words, first, &mut second, &mut out, &mut notes);
     Outcome { status, out, notes }
 }
@@ -76,14 +75,14 @@ fn run<R: Abort>(
 fn run_of<R: Abort>(rt: &R, alloc: Global, text: &str, most: usize) -> Outcome
     requires { 1 ≤ most }
 {
-    let mut first = source_of(rt, alloc, text.as_bytes(), most);
+    let mut first = source_of(alloc, text.as_bytes(), most, 0).expect(rt, "memory");
     run(rt, alloc, &mut first, 0, 0)
 }
 
 /// The packets that the compiler makes of a script.
 fn compiled<R: Abort>(rt: &R, alloc: Global, text: &str) -> MemSink {
     let font = Font::empty(alloc);
-    let mut out = sink_of(rt, alloc, 0);
+    let mut out = sink_of(alloc, 1_000_000, 0).expect(rt, "memory");
     if let Ok(script) = Script::read(alloc, text.as_bytes(), &font) {
         let _ = compile_script(alloc, ProfileName::Sd, 256, 1, &script, &mut out);
     }
@@ -142,16 +141,16 @@ fn records_that_are_refused(rt: HostRuntime) {
 #[test]
 fn sinks_that_fail(rt: HostRuntime) {
     let alloc = rt.alloc();
-    let mut script = source_of(&rt, alloc, AT_THE_HORIZON.as_bytes(), 100);
+    let mut script = source_of(alloc, AT_THE_HORIZON.as_bytes(), 100, 0).expect(&rt, "memory");
     let unwritten = run(&rt, alloc, &mut script, 1, 0);
     same(&rt, unwritten.status, ToolStatus::WriteFault(Which::Out));
     same(&rt, unwritten.notes.written(), b"write out\n".as_slice());
-    let mut script = source_of(&rt, alloc, AT_THE_HORIZON.as_bytes(), 100);
+    let mut script = source_of(alloc, AT_THE_HORIZON.as_bytes(), 100, 0).expect(&rt, "memory");
     let untold = run(&rt, alloc, &mut script, 0, 1);
     same(&rt, untold.status, ToolStatus::WriteFault(Which::Notes));
     same(&rt, untold.notes.written().len(), 0);
     same(&rt, untold.out.written().len(), DUE);
-    let mut script = source_of(&rt, alloc, AT_THE_HORIZON.as_bytes(), 100);
+    let mut script = source_of(alloc, AT_THE_HORIZON.as_bytes(), 100, 0).expect(&rt, "memory");
     let at_the_end = run(&rt, alloc, &mut script, 0, 2);
     same(&rt, at_the_end.status, ToolStatus::WriteFault(Which::Notes));
     same(

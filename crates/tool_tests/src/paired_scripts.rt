@@ -1,9 +1,8 @@
 //! Two languages that are sent on one PID.
 
-use crate::running::{sink_of, source_of};
 use crate::same::same;
 use page_pair::{PairFault, pair_top};
-use samples::words_of;
+use samples::{sink_of, source_of, words_of};
 use std::alloc::Global;
 use std::panic::Expect;
 use std::process::Abort;
@@ -91,10 +90,10 @@ fn run<R: Threads + Sync + Abort>(
     failing: u64,
 ) -> Outcome {
     let words = words_of(alloc, text).expect(rt, "memory");
-    let mut first = source_of(rt, alloc, first, 100);
-    let mut second = source_of(rt, alloc, second, 100);
-    let mut out = sink_of(rt, alloc, failing);
-    let mut notes = sink_of(rt, alloc, 0);
+    let mut first = source_of(alloc, first, 100, 0).expect(rt, "memory");
+    let mut second = source_of(alloc, second, 100, 0).expect(rt, "memory");
+    let mut out = sink_of(alloc, 1_000_000, failing).expect(rt, "memory");
+    let mut notes = sink_of(alloc, 1_000_000, 0).expect(rt, "memory");
     let status = pair_top(
         rt,
         alloc,

@@ -2,9 +2,8 @@
 
 ghost use Rattle.std.specs.Prelude.{◌≤◌};
 
-use crate::running::{sink_of, stream_of};
 use crate::same::same;
-use samples::words_of;
+use samples::{sink_of, source_of_packets, words_of};
 use service_mux::{TakeFault, take_top};
 use std::alloc::Global;
 use std::panic::Expect;
@@ -107,9 +106,9 @@ fn run<R: Abort>(
 {
     let [bad_read, bad_write, bad_note] = fails;
     let words = words_of(alloc, text).expect(rt, "memory");
-    let mut first = stream_of(rt, alloc, packets, further, most, bad_read);
-    let mut out = sink_of(rt, alloc, bad_write);
-    let mut notes = sink_of(rt, alloc, bad_note);
+    let mut first = source_of_packets(alloc, packets, further, most, bad_read).expect(rt, "memory");
+    let mut out = sink_of(alloc, 1_000_000, bad_write).expect(rt, "memory");
+    let mut notes = sink_of(alloc, 1_000_000, bad_note).expect(rt, "memory");
     let status = take_top(alloc, &words, &mut first, &mut out, &mut notes);
     Outcome { status, out, notes }
 }

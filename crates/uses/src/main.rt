@@ -2,7 +2,7 @@
 //! packets, and tells the picture that the receiver shows at a tick.
 #![tactic(auto)]
 
-ghost use Rattle.std.specs.Prelude.{IsTrue};
+ghost use Rattle.std.specs.Prelude.{IsTrue, ◌↔◌};
 ghost use Rattle.uses.specs.ToldPicture.{IsDone, TellsPicture};
 
 use bitmap_font::Font;
@@ -31,7 +31,7 @@ fn main(rt: HostRuntime) -> ExitCode {
 }
 
 /// Compiles a script, and writes the picture that a receiver of its packets shows at a tick, from
-/// the first packet on. Answers whether it could.
+/// the first packet on. A true answer says that it was written; a false one says nothing.
 fn tell_picture<R: Threads + Sync, K: Sink>(
     rt: &R,
     alloc: Global,
@@ -72,7 +72,7 @@ fn tell_picture<R: Threads + Sync, K: Sink>(
 
 /// Whether all of a stream was told.
 fn is_done(end: ToldEnd) -> bool
-    ensures { IsTrue result → IsDone end }
+    ensures { IsTrue result ↔ IsDone end }
 {
     matches!(end, ToldEnd::Done { .. })
 }

@@ -8,12 +8,13 @@ use Rattle.cue_records.specs.declared.record_fault.RecordFault.{RecordFault}
 use Rattle.cue_records.specs.declared.record_fault.RecordFault.TheVariants as record_faults
 use Rattle.shown_stream.specs.Compiled.{IsCompiledFor}
 use Rattle.live_plan.specs.LiveCalls.{HasBlocks, HasLetIn, LiveState}
-use Rattle.live_plan.specs.LiveRows.{AHEAD, Inserter, IsBatchOf, IsLetIn, IsUnplanned, IsUnscheduled, RowOrTick, early_of, early_tick, has_epoch, is_within, records_in, row, row_fault, rows_in, taken_as}
+use Rattle.live_plan.specs.LiveRows.{Inserter, IsBatchOf, IsLetIn, IsUnplanned, IsUnscheduled, RowOrTick, early_of, early_tick, has_epoch, is_within, records_in, row, row_fault, rows_in, taken_as}
 use Rattle.live_plan.specs.Outlets.{OutletState}
 use Rattle.script_stream.specs.LeftPackets.{ArePacketsLeft}
 use Rattle.live_plan.specs.declared.accepted.Accepted.{Accepted}
 use Rattle.live_plan.specs.declared.faults.RowFault.{RowFault}
 use Rattle.live_plan.specs.declared.faults.RowFault.TheVariants as refused
+use Rattle.live_plan.specs.declared.limits.TheConstants.{AHEAD}
 use Rattle.script_stream.specs.declared.left.PacketsLeft.{PacketsLeft}
 
 -- ---- what was accepted
@@ -101,10 +102,10 @@ IsUnsentOrEarly inserter past first last fault = IsRefusedBy None (horizon_over 
 
 -- ---- a record
 
--- the record is taken behind these rows: it is right, lies above the horizon, and the packets with it are left
+-- the record is taken behind these rows: it is valid, lies above the horizon, and the packets with it are left
 pub record IsNextTaken (inserter : Inserter) (past : List RowOrTick) (cells : Row) (last : Option ℕ) (sent : ℕ)
     (left : Option PacketsLeft) : Type 0 where
-  pub right : next_fault inserter.font (rows_in past) cells ≡ None
+  pub valid : next_fault inserter.font (rows_in past) cells ≡ None
   pub late : horizon_over (early_tick inserter.font past cells) last ≡ None
   pub has_left : HasLeft inserter (row cells ∷ past) sent left
 

@@ -1,6 +1,8 @@
 -- How a run of the live inserter ends, and its status.
 use Rattle.std.specs.Prelude.{ℕ, ◌≤◌, ◌⊎◌, List, Result, Ok, Err}
 use Rattle.script_input.specs.ReadScript.{text_limit}
+use Rattle.script_input.specs.declared.input_end.FontEnd.{FontEnd}
+use Rattle.script_input.specs.declared.input_end.FontEnd.TheVariants as font
 use Rattle.sub_base.specs.Counts.{HasRisen, HasRisenPast}
 use Rattle.sub_base.specs.Endpoints.{Received, Wrote, WrotePrefix}
 use Rattle.sub_base.specs.Seen.{Seen}
@@ -12,8 +14,6 @@ use Rattle.live_plan.specs.LiveOutcome.{HasNotBegun, IsLiveDone, IsLiveEnd, IsLi
 use Rattle.live_plan.specs.LiveRows.{Inserter}
 use Rattle.live_plan.specs.declared.faults.LiveFault.{LiveFault}
 use Rattle.live_plan.specs.declared.faults.LiveFault.TheVariants as live
-use Rattle.live_plan.specs.declared.font_input.FontEnd.{FontEnd}
-use Rattle.live_plan.specs.declared.font_input.FontEnd.TheVariants as font
 use Rattle.live_plan.specs.declared.live_words.LiveCommand.{LiveCommand}
 use Rattle.live_plan.specs.declared.run.Stop.{Stop}
 use Rattle.live_plan.specs.declared.run.Stop.TheVariants as stop

@@ -3,7 +3,7 @@ use Rattle.std.specs.Prelude.{ℕ, ◌-◌, nat_le, if◌then◌else◌, Bool, t
 use Rattle.std.specs.Option.{option_or}
 use Rattle.sent_sets.specs.RawSets.{RawSet}
 use Rattle.splice.specs.SplicedSets.{Streams, first_reception, second_reception, spliced_sets}
-use Rattle.splice.specs.SplicedStream.{CLOSE, CanBeJoined, FAR}
+use Rattle.splice.specs.SplicedStream.{CanBeJoined}
 use Rattle.splice.specs.SpliceOutcome.{IsSpliceRefused}
 use Rattle.splice.specs.Private.JoinedSets.{IsJoinedOf, IsLastTime}
 use Rattle.splice.specs.Private.Surveyed.{IsSurveyOf}
@@ -12,6 +12,7 @@ use Rattle.splice.specs.declared.found.Finding.TheVariants.{Good, Unshown, Lost}
 use Rattle.splice.specs.declared.found.Survey.{Survey}
 use Rattle.splice.specs.declared.found.Survey.TheVariants.{Refused, Whole}
 use Rattle.splice.specs.declared.joined.Joined.{Joined}
+use Rattle.splice.specs.declared.limits.TheConstants.{TOO_CLOSE, TOO_FAR}
 use Rattle.splice.specs.declared.part.Part.TheVariants.{Before, From}
 use Rattle.splice.specs.declared.splice_fault.SpliceFault.{SpliceFault}
 use Rattle.splice.specs.declared.splice_fault.SpliceFault.TheVariants as fault
@@ -51,8 +52,8 @@ fault_of_findings Good Good = None
 -- the cut is too close behind the last set, or too far from it
 abbrev pub fault_of_distance : ℕ → ℕ → Option SpliceFault
 fault_of_distance cut last =
-    if nat_le (cut - last) CLOSE then Some (fault.CutTooClose last)
-    else if nat_le FAR (cut - last) then Some (fault.CutTooFar last)
+    if nat_le (cut - last) TOO_CLOSE then Some (fault.CutTooClose last)
+    else if nat_le TOO_FAR (cut - last) then Some (fault.CutTooFar last)
     else None
 
 abbrev pub fault_of_last : ℕ → Option ℕ → Option SpliceFault

@@ -36,4 +36,4 @@ returns g c = λ done.
     subst (λ (profile : Profile). IsEnd profile (only 1)) c.of-profile.ensures
     (subst (IsEnd c.of-profile.result) c.only.ensures c.dump_stream-end.ensures) in
     told_picture script tick sent c.in-Ok.ensures.sent c.in-Ok.ensures.shown late early end supply.left rest.left
-    supply.given supply.faults rest.given rest.faults start next (c.is_done.ensures done) bytes ended
+    supply.given supply.faults rest.given rest.faults start next (c.is_done.ensures.0 done) bytes ended

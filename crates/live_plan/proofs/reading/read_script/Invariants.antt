@@ -1,4 +1,5 @@
 use Rattle.std.proofs.Common.{◌≡◌, ◌-◌, ◌≤◌, length, false}
+use Rattle.script_input.specs.ReadScript.{text_limit}
 use Rattle.live_plan.proofs.ReadLaws.{HasReadOn}
 use Rattle.live_plan.specs.Private.Running.{begun_of}
 use Rattle.live_plan.proofs.reading.read_script.Given as goal
@@ -6,7 +7,7 @@ use Rattle.live_plan.proofs.reading.read_script.Given as goal
 abbrev pub invariant-loop-count : goal.invariant-loop-count
 invariant-loop-count g l =
     record {
-      within : l.total ≤ 67108864;
+      within : l.total ≤ text_limit;
       room : length l.buffer ≡ 4096;
       is_open : l.run.live.outlet.closed ≡ false;
       few : l.run.count ≤ l.total;
@@ -16,4 +17,4 @@ invariant-loop-count g l =
     }
 
 abbrev pub decreases-loop-count : goal.decreases-loop-count
-decreases-loop-count g l = 67108864 - l.total
+decreases-loop-count g l = text_limit - l.total

@@ -5,7 +5,7 @@ use Rattle.splice.proofs.stream_reader.take_packet.Goals as goal
 pub returns-then-is_other-clause-packet : goal.returns-then-is_other-clause-packet
 returns-then-is_other-clause-packet c =
     passed_by c.args.part c.args.receiver.now c.args.packet.now c.args.place c.args.found.now c.args.joined.now
-    (bytes_of c.args.packet.now c.fits-packet) c.requires.place (c.is_other.ensures.taken c.if-is_other.true)
+    (bytes_of c.args.packet.now c.fits-packet) c.requires.place (c.is_other.ensures.other.0 c.if-is_other.true).0
     (λ fed given stands. c.is_other.ensures.stands c.if-is_other.true fed given stands)
 
 pub returns-clause-packet : goal.returns-clause-packet

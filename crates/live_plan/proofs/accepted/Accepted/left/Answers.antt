@@ -34,5 +34,5 @@ returns-in-Ok-left-clause-left c = λ past are.
 pub returns-in-Ok-left-clause-blocks : goal.returns-in-Ok-left-clause-blocks
 returns-in-Ok-left-clause-blocks c =
     blocks_whole (seen_of c.args.self.now.reader).pictures c.script.result.now.pictures _
-    (ap (λ script. script.pictures) c.script.ensures ∙ ap (λ (kept : Kept). kept.pictures) c.in-Ok.ensures.kept)
+    (ap (λ script. script.pictures) c.script.ensures ∙ ap (λ (kept : Kept). kept.pictures) c.in-Ok.ensures.lent)
     c.in-Ok-left.ensures.grown

@@ -22,10 +22,10 @@ returns-in-Ok-left_late-clause-taken c = λ past are.
     let takes = c.in-Ok.ensures.taken (rows_in past) are.stands in
     let next = accepted_next own c.take.new.self past cells (mark_of c.in-Ok.before) are takes in
     let has = c.in-Ok-left_late.ensures.left (row cells ∷ past) next in
-    let first = first_is_early own.font past cells (seen_of own.reader) c.first_tick-first.result are.stands takes.right
+    let first = first_is_early own.font past cells (seen_of own.reader) c.first_tick-first.result are.stands takes.valid
     c.first_tick-first.ensures in (
       record {
-        right = takes.right;
+        valid = takes.valid;
         late = ap (λ tick. horizon_over tick c.args.last) (sym first) ∙ has.late;
         has_left = has.has_left;
       },
@@ -39,10 +39,10 @@ returns-in-Err-left_late-clause-refused c = λ past are.
     let cells = fields_of c.args.row.now in
     let takes = c.in-Ok.ensures.taken (rows_in past) are.stands in
     let next = accepted_next own c.take.new.self past cells (mark_of c.in-Ok.before) are takes in
-    let first = first_is_early own.font past cells (seen_of own.reader) c.first_tick-first.result are.stands takes.right
+    let first = first_is_early own.font past cells (seen_of own.reader) c.first_tick-first.result are.stands takes.valid
     c.first_tick-first.ensures in (
       next_refused (inserter_in own) past cells c.first_tick-first.result c.args.last c.in-Err-left_late.fault
-          takes.right first (c.in-Err-left_late.ensures.refused (row cells ∷ past) next),
+          takes.valid first (c.in-Err-left_late.ensures.refused (row cells ∷ past) next),
       accepted_back own c.left_late.new.self c.take.new.self c.go_back.new.self past cells (mark_of c.in-Ok.before) are
           takes c.left_late.ensures.inserter c.left_late.ensures.seen c.in-Err-left_late.ensures.back
           c.go_back.ensures,

@@ -4,8 +4,7 @@ use Rattle.std.specs.List.{flat_map}
 use Rattle.stream_syntax.specs.Fields.{FitsFields}
 use Rattle.stream_syntax.specs.Segments.{listing_fields, spelled}
 use Rattle.stream_syntax.specs.declared.region.Listing.{Listing}
-use Rattle.set_coder.specs.SetParts.{listed_region}
-use Rattle.set_coder.specs.SetSegments.{epoch_region}
+use Rattle.set_coder.specs.SetSegments.{epoch_region, listed_region}
 use Rattle.set_coder.proofs.WritableLaws.{fits_numbered, listed_writable}
 use Rattle.shown_plan.specs.NamedSets.{named_listing, named_region}
 use Rattle.page_pair.specs.PairSets.{names_of}
