@@ -4,13 +4,16 @@ ghost use Rattle.cue_records.specs.declared.record_fault.RecordFault.TheVariants
 use crate::fault::ScriptKind;
 use std::alloc::{AllocError, AllocFailed};
 use sub_base::NoMemory;
+use thiserror::Error;
 
 /// Why a record was not taken.
-#[derive(Clone, Copy, Debug, PartialEq, Eq)]
+#[derive(Clone, Copy, Debug, PartialEq, Eq, Error)]
 pub enum RecordFault {
     /// No memory was found.
+    #[error("out of memory")]
     Memory,
     /// The first of its tests that fails.
+    #[error("{0}")]
     Wrong(ScriptKind),
 }
 

@@ -3,13 +3,16 @@ ghost use Rattle.program_files.specs.Words.{word_in};
 
 use std::{env, io};
 use sub_base::{NoMemory, Words};
+use thiserror::Error;
 
 /// Why the words of the command line were not read.
-#[derive(Drop)]
+#[derive(Debug, Drop, Error)]
 pub enum WordsFault {
     /// No memory was found.
+    #[error("out of memory")]
     Memory,
     /// A word is no text in UTF-8.
+    #[error("a word is not in UTF-8")]
     NotText,
 }
 

@@ -9,14 +9,17 @@ use crate::frame::{room_for, write_slots};
 use crate::piece::Piece;
 use std::alloc::Global;
 use sub_base::{Sink, WriteFailed};
+use thiserror::Error;
 use ts_packets::Packetiser;
 
 /// Why packets were not all written.
-#[derive(Drop)]
+#[derive(Debug, Drop, Error)]
 pub enum StreamFault {
     /// No memory was found; nothing was written.
+    #[error("out of memory")]
     Memory,
     /// The sink could not be written.
+    #[error("the sink could not be written")]
     Write,
 }
 
