@@ -101,13 +101,14 @@ pub schedule_told : (compiling : Compiling) (sets : List PlannedSet)
     (loads : List WriteLoad) (table : Timetable) (bytes : List ℕ) (text : List ℕ)
     → (shown : IsShownRightly compiling sets loads table bytes)
     → IsCheckText (received_by compiling compiling.script.origin) true shown.packets text
-    → TellsSchedule sets table text
+    → TellsSchedule (profile_of compiling.profile).coded sets table text
 schedule_told compiling sets loads table bytes text shown is = record {
   told = done;
   times =
       back (λ (one : DoneSet). one.time) (map (λ (set : PlannedSet). set.pts) sets) (scheduled.times calls given);
   dones = back (λ (one : DoneSet). one.done) table.dones (scheduled.dones calls given);
   peak = greatest pace calls;
+  held = (no_breach pace calls (stays.within (length shown.packets) calls given)).1;
   whole =
       is.whole
       ∙ ap (λ found. sets_text pace is.told ++ (peak_line (greatest pace calls) ++ breach_line found))

@@ -10,6 +10,7 @@ ghost use Rattle.schedule.specs.Slots.{Timetable};
 ghost use Rattle.script_stream.specs.ShownRightly.{IsShownRightly};
 ghost use Rattle.shown_stream.specs.Compiled.{sent_pace, Compiling, received_by};
 ghost use Rattle.sub_base.specs.Pace.{tick_of};
+ghost use Rattle.sub_base.specs.Profile.{profile_of};
 ghost use Rattle.sub_base.specs.declared.load.WriteLoad.{WriteLoad};
 
 /// Of the packets of a script, entered behind any number of them, `check` finds no breach: neither
@@ -24,7 +25,7 @@ pub fn check_of_a_script_finds_no_breach()
         → IsCheckText
         (received_by compiling (tick_of (sent_pace compiling.profile compiling.script) missed))
         true (entered_at missed shown.packets) text
-        → EndsUnbreached text }
+        → EndsUnbreached (profile_of compiling.profile).coded text }
 {}
 
 /// Of all packets of a script `check`, whose ORIGIN is the script's, tells the display sets of the
@@ -35,5 +36,5 @@ pub fn check_tells_the_schedule()
         (loads : List WriteLoad) (table : Timetable) (bytes text : List ℕ)
         → (shown : IsShownRightly compiling sets loads table bytes)
         → IsCheckText (received_by compiling compiling.script.origin) true shown.packets text
-        → TellsSchedule sets table text }
+        → TellsSchedule (profile_of compiling.profile).coded sets table text }
 {}
