@@ -7,7 +7,8 @@ use Rattle.std.proofs.lemmas.List.{take_more}
 use Rattle.sub_base.specs.Number.{value_from}
 use Rattle.bitmap_font.specs.Font.{GlyphValue, Indexes}
 use Rattle.bitmap_font.specs.Words.{value_of, within, capped, number_within}
-use Rattle.bitmap_font.specs.Values.{bytes_from, box_of, digit_of}
+use Rattle.sub_base.specs.Number.{hex_value}
+use Rattle.bitmap_font.specs.Values.{bytes_from, box_of}
 
 value_more : (before : ℕ) (digits : List ℕ) (digit : ℕ)
     → value_from before (digits ++ digit ∷ []) ≡ 10 * value_from before digits + (digit - 48)
@@ -52,18 +53,18 @@ box_from line_words least width height left bottom w h l b = rw (← w, ← h, �
 -- one more byte of a row
 pub bytes_from-more : (line : List ℕ) (n high low : ℕ) (bytes old : List ℕ)
     → bytes ≡ old ++ bytes_from line n →
-    high ≡ unwrap_or (digit_of (slice_index line (2 * n))) 0
-    → low ≡ unwrap_or (digit_of (slice_index line (2 * n + 1))) 0 →
+    high ≡ unwrap_or (hex_value (slice_index line (2 * n))) 0
+    → low ≡ unwrap_or (hex_value (slice_index line (2 * n + 1))) 0 →
     bytes ++ (high * 16 + low) ∷ [] ≡ old ++ bytes_from line (n + 1)
 bytes_from-more line n high low bytes old so_far high_is low_is =
     ap (λ (l : List ℕ). l ++ (high * 16 + low) ∷ []) so_far
     ∙ append_assoc old (bytes_from line n) ((high * 16 + low) ∷ [])
     ∙ ap (λ (h : ℕ). old ++ (bytes_from line n ++ (h * 16 + low) ∷ [])) high_is
     ∙ ap (λ (l : ℕ). old
-    ++ (bytes_from line n ++ (unwrap_or (digit_of (slice_index line (2 * n))) 0 * 16 + l) ∷ [])) low_is
+    ++ (bytes_from line n ++ (unwrap_or (hex_value (slice_index line (2 * n))) 0 * 16 + l) ∷ [])) low_is
     ∙ ap (λ (l : List ℕ). old ++ l) (sym (map-range_with_len_more
-    (λ k. unwrap_or (digit_of (slice_index line (2 * k))) 0 * 16
-    + unwrap_or (digit_of (slice_index line (2 * k + 1))) 0) 0 n n (omega arith)))
+    (λ k. unwrap_or (hex_value (slice_index line (2 * k))) 0 * 16
+    + unwrap_or (hex_value (slice_index line (2 * k + 1))) 0) 0 n n (omega arith)))
 
 pub nat_abs_between : (z : ℤ) (n m : ℕ) → pos n ≤ℤ z → z ≤ℤ pos m → (n ≤ nat_abs z)
     × (nat_abs z ≤ m)
@@ -156,5 +157,5 @@ row_done left row some =
 
 pub length-bytes_from : (line : List ℕ) (n : ℕ) → length (bytes_from line n) ≡ n
 length-bytes_from line n = length-map-range_with_len
-    (λ k. unwrap_or (digit_of (slice_index line (2 * k))) 0 * 16
-    + unwrap_or (digit_of (slice_index line (2 * k + 1))) 0) 0 n
+    (λ k. unwrap_or (hex_value (slice_index line (2 * k))) 0 * 16
+    + unwrap_or (hex_value (slice_index line (2 * k + 1))) 0) 0 n

@@ -1,6 +1,7 @@
 -- What the words of a line say; the first of them stands at place 0.
-use Rattle.std.specs.Prelude.{◌==◌, ◌&&◌, ◌||◌, if◌then◌else◌, ℕ, ◌+◌, ◌-◌, ◌*◌, ◌≤◌, ℤ, pos, negsuc, nat_abs, Bool, List, length, map, Option, Some, None, is_some, nat_lt, nat_le, slice_index, option_map, option_and_then, unwrap_or}
+use Rattle.std.specs.Prelude.{◌==◌, ◌&&◌, ◌||◌, if◌then◌else◌, ℕ, ◌+◌, ◌*◌, ◌≤◌, ℤ, pos, negsuc, nat_abs, Bool, List, length, map, Option, Some, None, is_some, nat_lt, nat_le, slice_index, option_map, option_and_then, unwrap_or}
 use Rattle.std.specs.List.{list_all, range_with_len}
+use Rattle.sub_base.specs.Number.{hex_value}
 use Rattle.bitmap_font.specs.declared.bounds.BoundingBox.{BoundingBox}
 use Rattle.bitmap_font.specs.Font.{row_bytes, IsOffset}
 use Rattle.bitmap_font.specs.Words.{number_within}
@@ -41,23 +42,15 @@ encoding_from (negsuc _) = Some None
 abbrev pub encoding_of : List (List ℕ) → Option (Option ℕ)
 encoding_of line_words = option_and_then encoding_from (number_within line_words 1 (negsuc 0) (pos 1114111))
 
--- the value of a hexadecimal digit
-abbrev pub digit_of : ℕ → Option ℕ
-digit_of byte =
-    if nat_le 48 byte && nat_le byte 57 then Some (byte - 48)
-    else if nat_le 65 byte && nat_le byte 70 then Some (byte - 55)
-    else if nat_le 97 byte && nat_le byte 102 then Some (byte - 87)
-    else None
-
 -- a row of a bitmap: two hexadecimal digits a byte
 abbrev pub is_row : ℕ → List ℕ → Bool
-is_row width line = (length line == 2 * row_bytes width) && list_all (λ byte. is_some (digit_of byte)) line
+is_row width line = (length line == 2 * row_bytes width) && list_all (λ byte. is_some (hex_value byte)) line
 
 -- the bytes that the first 2n digits of a line spell
 abbrev pub bytes_from : List ℕ → ℕ → List ℕ
 bytes_from line n =
-    map (λ k. unwrap_or (digit_of (slice_index line (2 * k))) 0 * 16
-    + unwrap_or (digit_of (slice_index line (2 * k + 1))) 0)
+    map (λ k. unwrap_or (hex_value (slice_index line (2 * k))) 0 * 16
+    + unwrap_or (hex_value (slice_index line (2 * k + 1))) 0)
     (range_with_len 0 n)
 
 -- the bytes of a row of a bitmap of that width

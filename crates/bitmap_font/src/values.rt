@@ -1,11 +1,13 @@
 ghost use Rattle.std.specs.Prelude.{◌≡◌, ◌==◌, ◌&&◌, ◌*◌, ◌/◌, ◌≤ℤ◌, is_some, ◌++◌, ◌≤◌, ◌<◌, min, pos, negsuc, true, false, length, option_map, IfNone, IfSome, IfOk};
 ghost use Rattle.std.specs.List.{list_all};
+ghost use Rattle.sub_base.specs.Number.{hex_value as hex_value_of};
 ghost use Rattle.bitmap_font.specs.Words.{words, number_within, number_of, are_digits, value_of, capped};
-ghost use Rattle.bitmap_font.specs.Values.{IsBox, box_of, advance_of_words, encoding_of, digit_of, bytes_from};
+ghost use Rattle.bitmap_font.specs.Values.{IsBox, box_of, advance_of_words, encoding_of, bytes_from};
 
 use crate::bounds::BoundingBox;
 use crate::keyword::word_at;
 use std::alloc::AllocError;
+use sub_base::hex_value;
 
 /// More than any number that a line may have.
 const TOO_MUCH: u32 = 2_000_000;
@@ -109,7 +111,7 @@ pub(crate) fn is_row(line: &[u8], row_bytes: usize) -> bool
     requires { row_bytes ≤ 32 }
     ensures value { result
         ≡ ((length line.now == 2 * row_bytes)
-        && list_all (λ byte. is_some (digit_of byte)) line.now) }
+        && list_all (λ byte. is_some (hex_value_of byte)) line.now) }
     ensures digits { result ≡ true → length line.now ≡ 2 * row_bytes }
 {
     line.len() == 2 * row_bytes && are_hexadecimal(line)
@@ -117,9 +119,9 @@ pub(crate) fn is_row(line: &[u8], row_bytes: usize) -> bool
 
 /// Whether all bytes are hexadecimal digits.
 fn are_hexadecimal(line: &[u8]) -> bool
-    ensures { result ≡ list_all (λ byte. is_some (digit_of byte)) line.now }
+    ensures { result ≡ list_all (λ byte. is_some (hex_value_of byte)) line.now }
 {
-    line.iter().all(|byte| digit_of(*byte).is_some())
+    line.iter().all(|byte| hex_value(*byte).is_some())
 }
 
 /// Appends the bytes of a row.
@@ -128,22 +130,9 @@ pub(crate) fn push_row(bytes: &mut Vec<u8>, line: &[u8]) -> Result<(), AllocErro
         (λ _. bytes.new.items ≡ bytes.old.items ++ bytes_from line.now (length line.now / 2)) }
 {
     for place in 0..line.len() / 2 {
-        let high = digit_of(line[2 * place]).unwrap_or(0);
-        let low = digit_of(line[2 * place + 1]).unwrap_or(0);
+        let high = hex_value(line[2 * place]).unwrap_or(0);
+        let low = hex_value(line[2 * place + 1]).unwrap_or(0);
         bytes.push(high * 16 + low)?;
     }
     Ok(())
-}
-
-/// The value of a hexadecimal digit.
-fn digit_of(byte: u8) -> Option<u8>
-    ensures value { result ≡ digit_of byte }
-    ensures small { IfSome result (λ digit. digit < 16) }
-{
-    match byte {
-        b'0'..=b'9' => Some(byte - b'0'),
-        b'A'..=b'F' => Some(byte - b'A' + 10),
-        b'a'..=b'f' => Some(byte - b'a' + 10),
-        _ => None,
-    }
 }

@@ -9,7 +9,8 @@ use Rattle.std.proofs.lemmas.List.{get_or-drop, get_or-take, take_more_set, leng
 use Rattle.std.proofs.lemmas.List.Elements.{All-push}
 use Rattle.std.proofs.lemmas.List.Folds.{list_all_more}
 use Rattle.cue_records.specs.Cells.{◌>>=◌}
-use Rattle.cue_records.specs.Codes.{hex_value, with_code, after_codes, has_code, single_code, single_codes, double_code, double_codes}
+use Rattle.sub_base.specs.Number.{hex_value}
+use Rattle.cue_records.specs.Codes.{with_code, after_codes, has_code, single_code, single_codes, double_code, double_codes}
 use Rattle.cue_records.proofs.TestLaws.{both-true}
 
 -- one code more was read

@@ -12,7 +12,8 @@ use Rattle.cue_records.specs.declared.fault.ScriptKind.{ScriptKind}
 use Rattle.cue_records.specs.declared.row_values.PictureHead.{PictureHead}
 use Rattle.cue_records.specs.CellFaults.{first_of, fails}
 use Rattle.cue_records.specs.Cells.{◌>>=◌}
-use Rattle.cue_records.specs.Codes.{hex_value, has_code, are_digits}
+use Rattle.sub_base.specs.Number.{hex_value}
+use Rattle.cue_records.specs.Codes.{has_code, are_digits}
 use Rattle.cue_records.specs.RowValues.{area}
 use Rattle.cue_records.specs.CodeFaults.{codes_fault, digits_of, is_hex, is_large}
 use Rattle.cue_records.proofs.TestLaws.{both-true, not-false}

@@ -10,10 +10,10 @@ passed None tests h = (refl, h)
 passed (Some kind) tests h = absurd (let never : Some kind ≡ None = h in cc)
 
 -- a test that passes
-pub right : (wrong : Bool) (kind : ScriptKind) (tests : List (Option ScriptKind))
+pub not-wrong : (wrong : Bool) (kind : ScriptKind) (tests : List (Option ScriptKind))
     → first_of (fails wrong kind ∷ tests) ≡ None → (wrong ≡ false) × (first_of tests ≡ None)
-right true kind tests h = absurd (let never : Some kind ≡ None = h in cc)
-right false kind tests h = (refl, h)
+not-wrong true kind tests h = absurd (let never : Some kind ≡ None = h in cc)
+not-wrong false kind tests h = (refl, h)
 
 pub not-false : (b : Bool) → not b ≡ false → b ≡ true
 not-false true h = refl

@@ -10,7 +10,7 @@ use Rattle.cue_records.specs.declared.fault.ScriptKind.TheVariants as faults
 use Rattle.cue_records.specs.declared.row_values.PictureHead.{PictureHead}
 use Rattle.cue_records.specs.declared.runs.PixelRun.{PixelRun}
 use Rattle.cue_records.specs.CellFaults.{first_of, fails}
-use Rattle.cue_records.specs.Codes.{hex_value}
+use Rattle.sub_base.specs.Number.{hex_value}
 use Rattle.cue_records.specs.PixelRuns.{is_in_runs, pixel_count, runs_in}
 use Rattle.cue_records.specs.RowValues.{area}
 

@@ -1,17 +1,10 @@
 -- Pixel codes as hexadecimal text.
-use Rattle.std.specs.Prelude.{ℕ, ◌+◌, ◌-◌, ◌*◌, nat_le, nat_lt, Bool, is_some, ◌&&◌, if◌then◌else◌, List, [], ◌∷◌, ◌++◌, Option, Some, None}
+use Rattle.std.specs.Prelude.{ℕ, ◌+◌, ◌*◌, nat_lt, Bool, is_some, if◌then◌else◌, List, [], ◌∷◌, ◌++◌, Option, Some, None}
 use Rattle.sub_base.specs.declared.depth.Depth.{Depth}
 use Rattle.sub_base.specs.declared.depth.Depth.TheVariants.{Two, Four, Eight}
+use Rattle.sub_base.specs.Number.{hex_value}
 use Rattle.std.specs.List.{list_all}
 use Rattle.cue_records.specs.Cells.{◌>>=◌}
-
--- the value of a hexadecimal digit, in capital or small letters
-abbrev pub hex_value : ℕ → Option ℕ
-hex_value digit =
-    if nat_le 48 digit && nat_le digit 57 then Some (digit - 48)
-    else if nat_le 65 digit && nat_le digit 70 then Some (digit - 55)
-    else if nat_le 97 digit && nat_le digit 102 then Some (digit - 87)
-    else None
 
 -- the code of one digit, below the limit
 abbrev pub single_code : ℕ → ℕ → Option ℕ

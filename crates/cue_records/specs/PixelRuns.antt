@@ -1,18 +1,19 @@
 -- Pixel codes as runs: how many pixels one code gives, and that code.
 use Rattle.std.specs.Prelude.{ℕ, ◌+◌, ◌==◌, Bool, if◌then◌else◌, List, [], ◌∷◌, take, drop, replicate, Option, Some, None, sum_by}
 use Rattle.std.specs.List.{flat_map, list_any, position_or_len}
-use Rattle.sub_base.specs.Number.{number_in}
+use Rattle.sub_base.specs.Number.{number_in, hex_value}
 use Rattle.sub_base.specs.declared.depth.Depth.{Depth}
 use Rattle.sub_base.specs.declared.depth.Depth.TheVariants.{Two, Four, Eight}
 use Rattle.cue_records.specs.declared.limits.TheConstants.{LONGEST_RUN}
 use Rattle.cue_records.specs.declared.runs.PixelRun.{PixelRun}
 use Rattle.cue_records.specs.Cells.{◌>>=◌}
-use Rattle.cue_records.specs.Codes.{hex_value, double_code, codes_of}
+use Rattle.cue_records.specs.Codes.{double_code, codes_of}
 
--- the space, which parts runs, and the `*` between a run's count and its code
+-- the space, which parts runs
 abbrev pub SPACE : ℕ
 SPACE = 32
 
+-- the `*` between a run's count and its code
 abbrev pub STAR : ℕ
 STAR = 42
 

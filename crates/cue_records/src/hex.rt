@@ -1,5 +1,5 @@
 ghost use Rattle.std.specs.Prelude.{◌≡◌, ◌<◌, IfSome, unwrap_or};
-ghost use Rattle.cue_records.specs.Codes.{hex_value as hex_value_of};
+ghost use Rattle.sub_base.specs.Number.{hex_value as hex_value_of};
 
 /// The value of a hexadecimal digit, in capital or small letters.
 pub(crate) fn hex_value(digit: char) -> Option<u8>

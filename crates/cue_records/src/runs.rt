@@ -1,8 +1,8 @@
 ghost use Rattle.std.specs.Prelude.{◌≡◌, ◌+◌, ◌<◌, ◌≤◌, ◌^◌, ◌++◌, [], ◌∷◌, length, slice_index, take, replicate, All, IfSome, Some, OnOk};
 ghost use Rattle.sub_base.specs.Depth.{code_count};
 ghost use Rattle.cue_records.specs.CellFaults.{fault_in};
-ghost use Rattle.sub_base.specs.Number.{number_in as number_in_of};
-ghost use Rattle.cue_records.specs.Codes.{double_code as code_of_two, hex_value};
+ghost use Rattle.sub_base.specs.Number.{number_in as number_in_of, hex_value};
+ghost use Rattle.cue_records.specs.Codes.{double_code as code_of_two};
 ghost use Rattle.cue_records.specs.declared.limits.TheConstants.{LONGEST_RUN};
 ghost use Rattle.cue_records.specs.PixelRuns.{place_of as place_of_mark, code_at_depth as code_at_depth_of, run_in as run_in_of, first_run as first_run_of, run_codes, is_in_runs as is_in_runs_of};
 ghost use Rattle.cue_records.specs.CodeFaults.{runs_fault};

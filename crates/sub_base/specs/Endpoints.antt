@@ -15,10 +15,11 @@ pub record Received : Type 0 where
   pub written : Option (List ℕ)
   pub faults : ℕ
 
--- a read or a write may answer that it failed: the count of faults rose
+-- a read may answer that it failed: the count of the source's faults rose, or can rise no more
 abbrev pub HasReadFault : Supplied → Supplied → Type 0
 HasReadFault before now = HasRisen before.faults now.faults
 
+-- a write may answer that it failed: the count of the sink's faults rose, or can rise no more
 abbrev pub HasWriteFault : Received → Received → Type 0
 HasWriteFault before now = HasRisen before.faults now.faults
 

@@ -1,4 +1,4 @@
--- Numbers as decimal text: without a sign, and without leading zeros.
+-- Numbers as decimal text, without a sign and without leading zeros, and the values of hexadecimal digits.
 use Rattle.std.specs.Prelude.{ℕ, ◌+◌, ◌-◌, ◌*◌, ◌==◌, nat_le, nat_lt, Bool, ◌&&◌, not, slice_index, if◌then◌else◌, List, [], ◌∷◌, length, Option, Some, None, option_and_then}
 use Rattle.std.specs.List.{list_all}
 
@@ -31,3 +31,11 @@ in_range least most number = if nat_le least number && nat_le number most then S
 -- the number that the text is, of at most eleven digits, where it lies in that range
 abbrev pub number_in : ℕ → ℕ → List ℕ → Option ℕ
 number_in least most text = option_and_then (in_range least most) (number_of 11 text)
+
+-- the value of a hexadecimal digit, in capital or small letters
+abbrev pub hex_value : ℕ → Option ℕ
+hex_value digit =
+    if nat_le 48 digit && nat_le digit 57 then Some (digit - 48)
+    else if nat_le 65 digit && nat_le digit 70 then Some (digit - 55)
+    else if nat_le 97 digit && nat_le digit 102 then Some (digit - 87)
+    else None

@@ -111,7 +111,7 @@ pub record IsToolUntroubled (F : Type 0) (causes : Causes F) (before now : Seen)
   pub told : HasRisen notes_before.faults notes_now.faults → ⊥
   pub first_within : HasRisenPast causes.limit before.first.given now.first.given → ⊥
   pub second_within : HasRisenPast causes.limit before.second.given now.second.given → ⊥
-  pub right : (fault : F) → causes.IsRefused fault → ⊥
+  pub unrefused : (fault : F) → causes.IsRefused fault → ⊥
 
 -- where nothing gives a cause of refusal, the tool is done, or memory is wanting
 abbrev pub IsToolComplete : {F : Type 0} → Causes F → Seen → Seen → Received → Received → ToolStatus F

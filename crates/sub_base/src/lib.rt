@@ -36,7 +36,7 @@ pub use gate::{BandGate, NoGate};
 pub use in_memory::{MemSink, MemSource};
 pub use items::Items;
 pub use load::{SetLoad, UNIT_ROOM, WriteLoad};
-pub use number::{decimal_number, number_in};
+pub use number::{decimal_number, hex_value, number_in};
 pub use pace::{Pace, SECOND};
 pub use profile::{
     LARGEST_BUFFER, LONGEST_STEP, Profile, ProfileName, SHORTEST_STEP, every_profile,

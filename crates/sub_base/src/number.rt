@@ -1,6 +1,6 @@
 ghost use Rattle.std.specs.Prelude.{◌≡◌, ◌≤◌, ◌<◌, length, true, IfSome};
 ghost use Rattle.std.specs.List.{list_all};
-ghost use Rattle.sub_base.specs.Number.{number_of, value_from, is_digit, is_number as is_number_of, has_leading_zero, number_in as number_in_of};
+ghost use Rattle.sub_base.specs.Number.{number_of, value_from, is_digit, is_number as is_number_of, has_leading_zero, number_in as number_in_of, hex_value as hex_value_of};
 
 /// The number that the text is in decimal, without a sign and without leading zeros, of at most
 /// that many digits.
@@ -65,4 +65,17 @@ fn value_of(digits: &[u8]) -> u64
         value = 10 * value + u64::from(*digit - b'0');
     }
     value
+}
+
+/// The value of a hexadecimal digit, in capital or small letters.
+pub fn hex_value(digit: u8) -> Option<u8>
+    ensures value { result ≡ hex_value_of digit }
+    ensures small { IfSome result (λ value. value < 16) }
+{
+    match digit {
+        b'0'..=b'9' => Some(digit - b'0'),
+        b'A'..=b'F' => Some(digit - b'A' + 10),
+        b'a'..=b'f' => Some(digit - b'a' + 10),
+        _ => None,
+    }
 }

@@ -22,16 +22,19 @@ new_glyph = record { encoding = None; advance = None; shape = None; bitmap = fal
 abbrev pub with_row : List ℕ → OpenGlyph → OpenGlyph
 with_row text glyph = record glyph { left = glyph.left - 1; bytes = glyph.bytes ++ bytes_of_row (width_of glyph) text }
 
--- with what each of its other lines says
+-- a glyph with what an ENCODING line says: a character, or none for -1
 abbrev pub with_encoding : Option (Option ℕ) → OpenGlyph → OpenGlyph
 with_encoding encoding glyph = record glyph { encoding = encoding }
 
+-- a glyph with what a DWIDTH line says: how far it moves the pen, in pixels
 abbrev pub with_advance : Option ℕ → OpenGlyph → OpenGlyph
 with_advance advance glyph = record glyph { advance = advance }
 
+-- a glyph with what a BBX line says: its box
 abbrev pub with_shape : Option BoundingBox → OpenGlyph → OpenGlyph
 with_shape shape glyph = record glyph { shape = shape }
 
+-- a glyph behind its BITMAP line: as many rows as its box is high are still to come
 abbrev pub with_bitmap : OpenGlyph → OpenGlyph
 with_bitmap glyph = record glyph { bitmap = true; left = height_of glyph }
 

@@ -1,5 +1,5 @@
 use Rattle.std.proofs.Common.{◌≡◌, ◌∙◌, ℕ, ◌+◌, ◌*◌, ◌/◌, ◌<◌, [], length, get_or, unwrap_or, ap, arith}
-use Rattle.cue_records.specs.Codes.{hex_value}
+use Rattle.sub_base.specs.Number.{hex_value}
 use Rattle.cue_records.proofs.CodesLaws.{digit_in_chunk, double_more}
 use Rattle.cue_records.proofs.codes.put_double_codes.Goals as goal
 
