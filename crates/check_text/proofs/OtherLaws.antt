@@ -54,12 +54,12 @@ module _ (coded pid : ℕ) (pages : Pages) (before : List (List ℕ)) (packet : 
 -- ---- what was received, and told
 
 module _ (pid : ℕ) (pages : Pages) (packets : List (List ℕ)) (packet : List ℕ)
-    (taken : packets_taken pid packets ≡ packets) (right : packet_fault pid packet ≡ None)
+    (taken : packets_taken pid packets ≡ packets) (faultless : packet_fault pid packet ≡ None)
     (other : (pid_of packet == pid) ≡ false) where
   same_arrivals : (coded : ℕ)
       → arrivals_of coded pid pages (packets ++ packet ∷ []) ≡ arrivals_of coded pid pages packets
   same_arrivals coded =
-      arrivals_grow coded pid pages packets packet taken right
+      arrivals_grow coded pid pages packets packet taken faultless
       ∙ (λ i. arrivals_of coded pid pages packets
       ++ (losses_at (no_event coded pid pages packets packet other i)
       ++ units_at pages (length packets) (no_unit coded pid pages packets packet other i)))
@@ -68,7 +68,7 @@ module _ (pid : ℕ) (pages : Pages) (packets : List (List ℕ)) (packet : List 
   same_sets : (coded : ℕ)
       → sets_of coded pid pages false (packets ++ packet ∷ []) ≡ sets_of coded pid pages false packets
   same_sets coded =
-      let more = taken_more pid packets packet taken right in
+      let more = taken_more pid packets packet taken faultless in
       sets_of_packets coded pid pages false (packets ++ packet ∷ [])
       ∙ (λ i. sets_in coded (ended_packets false pid (packets ++ packet ∷ []) more i)
       (runs_of (same_arrivals coded i)))
@@ -81,19 +81,19 @@ other_received : (made : Reception) (packets : List (List ℕ)) (packet : List �
     → packets_taken made.pid packets ≡ packets → packet_fault made.pid packet ≡ None
     → (pid_of packet == made.pid) ≡ false → HasReceived made false packets past
     → HasReceived made false (packets ++ packet ∷ []) past
-other_received made packets packet past taken right other received =
+other_received made packets packet past taken faultless other received =
     subst (λ (given : List (Delivery (List ℕ))). AreDeliveriesRead (reverse given) past)
-    (sym (same_sets made.pid made.pages packets packet taken right other made.profile.coded)) received
+    (sym (same_sets made.pid made.pages packets packet taken faultless other made.profile.coded)) received
 
 -- and so is what is told of them
 other_told : (made : Reception) (packets : List (List ℕ)) (packet : List ℕ) (past : List (Delivery Reading))
     → packets_taken made.pid packets ≡ packets → packet_fault made.pid packet ≡ None
     → (pid_of packet == made.pid) ≡ false → HasReceived made false packets past
     → told_of made 0 (packets ++ packet ∷ []) past ≡ told_of made 0 packets past
-other_told made packets packet past taken right other received =
+other_told made packets packet past taken faultless other received =
     let coded = made.profile.coded in
-    packet_tells made 0 packets packet past [] taken right received
-    (other_received made packets packet past taken right other received)
+    packet_tells made 0 packets packet past [] taken faultless received
+    (other_received made packets packet past taken faultless other received)
     ∙ (λ i. told_of made 0 packets past
     ++ calls_of_packet of_no_set (no_event coded made.pid made.pages packets packet other i)
     (nothing_arrives coded made.pid made.pages packets packet other i) (0 + length packets) [])
@@ -104,12 +104,12 @@ other_told made packets packet past taken right other received =
 other_read : (collecting : Collecting) (fed : List (List ℕ)) (packet : List ℕ) (given : List (Delivery (List ℕ)))
     → packet_fault collecting.demux.pid packet ≡ None → (pid_of packet == collecting.demux.pid) ≡ false
     → IsReaderOf false fed given collecting → IsReaderOf false (fed ++ packet ∷ []) given collecting
-other_read collecting fed packet given right other stands = record {
-  taken = taken_more collecting.demux.pid fed packet stands.taken right;
-  demux = (other_goes_on collecting.demux packet right other).stands fed stands.demux;
+other_read collecting fed packet given faultless other stands = record {
+  taken = taken_more collecting.demux.pid fed packet stands.taken faultless;
+  demux = (other_goes_on collecting.demux packet faultless other).stands fed stands.demux;
   sets =
       subst (λ (arrivals : List Arrival). sets.HasGathered arrivals false given collecting.sets)
-      (sym (same_arrivals collecting.demux.pid collecting.sets.pages fed packet stands.taken right other
+      (sym (same_arrivals collecting.demux.pid collecting.sets.pages fed packet stands.taken faultless other
       collecting.sets.coded)) stands.sets;
 }
 
@@ -121,7 +121,7 @@ other_fed receiving fed packet past is has = record {
   given = has.given;
   stands = record {
     coded = has.stands.coded;
-    reads = other_read receiving.collecting fed packet has.given is.right is.other has.stands.reads;
+    reads = other_read receiving.collecting fed packet has.given is.faultless is.other has.stands.reads;
     holds = has.stands.holds;
   };
   read = has.read;
@@ -144,8 +144,8 @@ other_metered slot_of checking packets packet text is has =
         metered = has.at.metered;
         whole = has.at.whole;
       };
-      received = other_received made packets packet has.past taken is.right is.other has.received;
+      received = other_received made packets packet has.past taken is.faultless is.other has.received;
       are = has.are
           ∙ ap (told_in_slots slot_of)
-          (sym (other_told made packets packet has.past taken is.right is.other has.received));
+          (sym (other_told made packets packet has.past taken is.faultless is.other has.received));
     }

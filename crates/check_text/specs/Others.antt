@@ -6,5 +6,5 @@ use Rattle.stream_syntax.specs.TransportPackets.{packet_fault, pid_of}
 -- a packet of bytes that can be taken, and is of another PID
 pub record IsOther (pid : ℕ) (packet : List ℕ) : Type 0 where
   pub bytes : AreAllBytes packet
-  pub right : packet_fault pid packet ≡ None
+  pub faultless : packet_fault pid packet ≡ None
   pub other : (pid_of packet == pid) ≡ false

@@ -6,6 +6,7 @@ use Rattle.stream_syntax.specs.Fields.{number_of}
 use Rattle.code_strings.specs.declared.token.Token.{Token}
 use Rattle.code_strings.specs.declared.token.Token.TheVariants.{Pixels, End}
 
+-- a further reading where the first gave something
 infixl 10 ◌>>=◌
 abbrev pub ◌>>=◌ : {A B : Type 0} → Option A → (A → Option B) → Option B
 None >>= f = None

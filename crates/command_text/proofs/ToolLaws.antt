@@ -15,7 +15,7 @@ module _ (F : Type 0) (causes : Causes F) (before now : Seen) (notes_before note
       → IsToolUntroubled F causes before now notes_before notes_now → IsWhole run
   untroubled tool.Done cause calm = inl refl
   untroubled tool.Usage cause calm = absurd cause
-  untroubled (tool.Refused fault) cause calm = absurd (calm.right fault cause)
+  untroubled (tool.Refused fault) cause calm = absurd (calm.unrefused fault cause)
   untroubled (tool.ReadFault which.First) cause calm = absurd (calm.first_read cause.0)
   untroubled (tool.ReadFault which.Second) cause calm = absurd (calm.second_read cause.0)
   untroubled (tool.ReadFault which.Out) cause calm = absurd cause.0

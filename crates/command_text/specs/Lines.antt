@@ -6,10 +6,11 @@ use Rattle.std.specs.Fmt.{decimal}
 abbrev pub line_end : List ℕ
 line_end = 10 ∷ []
 
--- one hexadecimal digit, in capitals, and the two of a byte
+-- the hexadecimal digit of a number below 16, in capitals
 abbrev pub hex_digit : ℕ → ℕ
 hex_digit n = if nat_lt n 10 then 48 + n else 55 + n
 
+-- the two hexadecimal digits of a byte, the upper one first
 abbrev pub two_hex : ℕ → List ℕ
 two_hex byte = hex_digit (byte / 16) ∷ hex_digit (byte % 16) ∷ []
 

@@ -22,7 +22,7 @@ abbrev pub are_rising : Option ℕ → List (List ℕ) → Bool
 are_rising before [] = true
 are_rising before (word ∷ words) = rises_from before (tick_of word) (λ tick. are_rising tick words)
 
--- the tick that a word is, where it is one
+-- the tick that a word is; 0 where it is none
 abbrev pub tick_or_zero : List ℕ → ℕ
 tick_or_zero word = unwrap_or (tick_of word) 0
 

@@ -20,10 +20,11 @@ word_at words place = slice_index_or words place []
 abbrev pub has_word : List (List ℕ) → ℕ → List ℕ → Bool
 has_word words place text = bytes_eq (word_at words place) text
 
--- the PID and the page that a word is, within their ranges
+-- the PID that a word is, where it is a number from 32 to 8,190
 abbrev pub pid_of : List ℕ → Option ℕ
 pid_of word = number_in LEAST_PID GREATEST_PID word
 
+-- the page (page_id) that a word is, where it is a number from 1 to 65,535
 abbrev pub page_of : List ℕ → Option ℕ
 page_of word = number_in 1 GREATEST_PAGE word
 

@@ -19,7 +19,7 @@ use Rattle.cue_list.specs.RowFaults.{fault_with, shape_fault, is_misplaced, is_f
 use Rattle.cue_records.specs.Regions.{lies_on, share_row, has_room_at}
 use Rattle.cue_records.specs.Rows.{Row}
 use Rattle.cue_list.specs.TextSizes.{text_head, missing_glyph}
-use Rattle.cue_records.proofs.TestLaws.{passed, right, not-false, both-true, both-false}
+use Rattle.cue_records.proofs.TestLaws.{passed, not-wrong, not-false, both-true, both-false}
 
 -- a valid record stands in its place, has room, and its cells and its kind's tests are valid
 pub record IsValidRow (font : FontValue) (past : ScriptPast) (kind : RowKind) (number : ℕ) (cells : Row) : Type 0 where
@@ -33,8 +33,8 @@ pub IsValidRow-from : (font : FontValue) (past : ScriptPast) (kind : RowKind) (n
     → IsValidRow font past kind number cells
 IsValidRow-from font past kind number cells h =
     let shape = passed (shape_fault kind cells) _ h in
-    let place = right (is_misplaced past kind) faults.Order _ shape.1 in
-    let full = right (is_full past kind) faults.TooMany _ place.1 in
+    let place = not-wrong (is_misplaced past kind) faults.Order _ shape.1 in
+    let full = not-wrong (is_full past kind) faults.TooMany _ place.1 in
     let read = passed (cells_fault past.origin kind cells) _ full.1 in
     record {
       placed = place.0;
@@ -49,11 +49,11 @@ pub number-range : (least most : ℕ) (cell : List ℕ) → number_fault least m
 unfolding number_fault
 number-range least most cell h =
     let first =
-    right (not (is_number MOST_DIGITS cell)) faults.Number
+    not-wrong (not (is_number MOST_DIGITS cell)) faults.Number
     (fails (not (nat_le least (value_of cell) && nat_le (value_of cell) most)) faults.Range ∷ []) h in
     let inside =
     not-false (nat_le least (value_of cell) && nat_le (value_of cell) most)
-    (right (not (nat_le least (value_of cell) && nat_le (value_of cell) most)) faults.Range [] first.1).0 in
+    (not-wrong (not (nat_le least (value_of cell) && nat_le (value_of cell) most)) faults.Range [] first.1).0 in
     let parts = both-true (nat_le least (value_of cell)) (nat_le (value_of cell) most) inside in
     (least-of parts.0, most-of parts.1)
   where
@@ -69,9 +69,9 @@ pub epoch-valid : (past : ScriptPast) (start : ℕ) → epoch_fault past start �
     × (past.is_near start ≡ false)
 unfolding epoch_fault
 epoch-valid past start h =
-    let first = right (not (starts_before start past.epoch)) faults.Order _ h in
-    let second = right (lasts_past start past.epoch) faults.OutsideEpoch _ first.1 in
-    let third = right (past.is_near start) faults.TooClose [] second.1 in
+    let first = not-wrong (not (starts_before start past.epoch)) faults.Order _ h in
+    let second = not-wrong (lasts_past start past.epoch) faults.OutsideEpoch _ first.1 in
+    let third = not-wrong (past.is_near start) faults.TooClose [] second.1 in
     (not-false _ first.0, second.0, third.0)
 
 -- a valid region
@@ -81,9 +81,9 @@ pub region-valid : (past : ScriptPast) (region : Region) → region_fault past r
     × (list_any (share_row region) (regions_of past.epoch) ≡ false)
 unfolding region_fault
 region-valid past region h =
-    let first = right (is_some (region_with region.id (regions_of past.epoch))) faults.DoubleRegion _ h in
-    let second = right (not (lies_on past.width past.height region)) faults.RegionOutside _ first.1 in
-    let third = right (list_any (share_row region) (regions_of past.epoch)) faults.RegionsMeet [] second.1 in
+    let first = not-wrong (is_some (region_with region.id (regions_of past.epoch))) faults.DoubleRegion _ h in
+    let second = not-wrong (not (lies_on past.width past.height region)) faults.RegionOutside _ first.1 in
+    let third = not-wrong (list_any (share_row region) (regions_of past.epoch)) faults.RegionsMeet [] second.1 in
     (first.0, not-false _ second.0, third.0)
 
 -- a valid colour
@@ -92,9 +92,9 @@ pub colour-valid : (past : ScriptPast) (row : ColourRow) → colour_fault past r
     × (past.is_near row.tick ≡ false)
 unfolding colour_fault
 colour-valid past row h =
-    let first = right (not (nat_lt row.entry (code_count row.depth))) faults.CodeRange _ h in
-    let second = right (is_early row.tick past.epoch) faults.OutsideEpoch _ first.1 in
-    let third = right (past.is_near row.tick) faults.TooClose [] second.1 in
+    let first = not-wrong (not (nat_lt row.entry (code_count row.depth))) faults.CodeRange _ h in
+    let second = not-wrong (is_early row.tick past.epoch) faults.OutsideEpoch _ first.1 in
+    let third = not-wrong (past.is_near row.tick) faults.TooClose [] second.1 in
     (not-false _ first.0, second.0, third.0)
 
 -- a valid span
@@ -109,10 +109,10 @@ pub record IsValidSpan (past : ScriptPast) (start end : ℕ) : Type 0 where
 pub span-valid : (past : ScriptPast) (start end : ℕ) → span_fault past start end ≡ None → IsValidSpan past start end
 unfolding span_fault
 span-valid past start end h =
-    let first = right (is_early start past.epoch) faults.OutsideEpoch _ h in
-    let second = right (nat_le end start) faults.EmptySpan _ first.1 in
-    let third = right (nat_lt (start + LONGEST_CUE) end) faults.TooLong _ second.1 in
-    let fourth = right (past.is_near start || past.is_near end || is_close start end) faults.TooClose [] third.1 in
+    let first = not-wrong (is_early start past.epoch) faults.OutsideEpoch _ h in
+    let second = not-wrong (nat_le end start) faults.EmptySpan _ first.1 in
+    let third = not-wrong (nat_lt (start + LONGEST_CUE) end) faults.TooLong _ second.1 in
+    let fourth = not-wrong (past.is_near start || past.is_near end || is_close start end) faults.TooClose [] third.1 in
     let apart = both-false (past.is_near start || past.is_near end) (is_close start end) fourth.0 in
     let far = both-false (past.is_near start) (past.is_near end) apart.0 in
     record { within = first.0; lasts = second.0; short = third.0; start_far = far.0; end_far = far.1; apart = apart.1 }
@@ -133,8 +133,8 @@ placed-valid : (past : ScriptPast) (placing : PlaceRow) (region : Option Region)
 placed-valid past placing None head is h = absurd (let never : Some faults.NoRegion ≡ None = h in cc)
 placed-valid past placing (Some region) None is h = absurd (let never : Some faults.NoPicture ≡ None = h in cc)
 placed-valid past placing (Some region) (Some head) is h =
-    let first = right (nat_lt (bits_of region.depth) (bits_of head.depth)) faults.CodeRange _ h in
-    let second = right (not (has_room_at region placing.x placing.y head)) faults.CueOutside _ first.1 in
+    let first = not-wrong (nat_lt (bits_of region.depth) (bits_of head.depth)) faults.CodeRange _ h in
+    let second = not-wrong (not (has_room_at region placing.x placing.y head)) faults.CueOutside _ first.1 in
     let third = passed (span_fault past placing.start placing.end) [] second.1 in (
       region,
       head,
@@ -164,7 +164,7 @@ set-valid font past placing ink paper characters None is h =
 set-valid font past placing ink paper characters (Some region) is h =
     let head = text_head font region.depth characters in
     let first =
-    right (not (nat_lt ink (code_count region.depth) && nat_lt paper (code_count region.depth))) faults.CodeRange
+    not-wrong (not (nat_lt ink (code_count region.depth) && nat_lt paper (code_count region.depth))) faults.CodeRange
     (glyph_fault (missing_glyph font characters) ∷ text_fault past placing region head ∷ []) h in
     let second =
     passed (glyph_fault (missing_glyph font characters)) (text_fault past placing region head ∷ []) first.1 in
@@ -173,14 +173,14 @@ set-valid font past placing ink paper characters (Some region) is h =
     let after_inside : List (Option ScriptKind) = span_fault past placing.start placing.end ∷ after_span in
     let outside : Bool =
     nat_lt 1920 head.width || nat_lt 1080 head.height || not (has_room_at region placing.x placing.y head) in
-    let wide = right (head.width == 0) faults.Range (fails outside faults.CueOutside ∷ after_inside) third.0 in
-    let inside = right outside faults.CueOutside after_inside wide.1 in
+    let wide = not-wrong (head.width == 0) faults.Range (fails outside faults.CueOutside ∷ after_inside) third.0 in
+    let inside = not-wrong outside faults.CueOutside after_inside wide.1 in
     let lies =
     not-false (has_room_at region placing.x placing.y head)
     (both-false (nat_lt 1920 head.width || nat_lt 1080 head.height)
     (not (has_room_at region placing.x placing.y head)) inside.0).1 in
     let span = passed (span_fault past placing.start placing.end) after_span inside.1 in
-    let few = right (are_too_many past head) faults.TooMany [] span.1 in
+    let few = not-wrong (are_too_many past head) faults.TooMany [] span.1 in
     let same : bits_of head.depth ≤ bits_of region.depth = omega arith in (
       region,
       record {

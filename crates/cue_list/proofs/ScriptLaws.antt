@@ -31,7 +31,7 @@ use Rattle.cue_list.specs.Sound.{IsSoundScript, IsEpoch, IsCue, IsColourRow, IsR
 use Rattle.cue_list.specs.Private.State.{IsReader, past_of, head_of, next_with}
 use Rattle.cue_list.proofs.EpochLaws.{IsEpochOf, IsCueOf}
 use Rattle.cue_list.proofs.FactLaws.{IsValidRow-from}
-use Rattle.cue_records.proofs.TestLaws.{passed, right}
+use Rattle.cue_records.proofs.TestLaws.{passed, not-wrong}
 use Rattle.cue_list.proofs.PastLaws.{row_with, looking-back-more}
 use Rattle.cue_list.proofs.ReadLaws.{before-more, cue-open, all-read}
 use Rattle.cue_list.proofs.SoundLaws.{EpochFacts-none, member-last, member-flat, colours_of, cues_of, in_last, sum-last, length-push}
@@ -44,8 +44,8 @@ unknown-none : (cells : Row) → shape_fault kinds.Other cells ≡ None → ⊥
 unfolding shape_fault
 unknown-none cells h =
     let count : List (Option ScriptKind) = fails (not (length cells == cells_of kinds.Other)) faults.Count ∷ [] in
-    let text = right (not (is_text_row cells)) faults.NotUtf8 (fails true faults.Unknown ∷ count) h in
-    let never : true ≡ false = (right true faults.Unknown count text.1).0 in
+    let text = not-wrong (not (is_text_row cells)) faults.NotUtf8 (fails true faults.Unknown ∷ count) h in
+    let never : true ≡ false = (not-wrong true faults.Unknown count text.1).0 in
     cc
 
 sound-next : (font : FontValue) (past : ScriptPast) (ticks : List ℕ) (kind : RowKind) (number : ℕ) (cells : Row)

@@ -48,6 +48,7 @@ abbrev pub unit_from : Pages → ℕ → ℕ → Result (ℕ × List ℕ) PesFau
 unit_from pages place size (Ok pes) = unit_with place size pes.0 (filter (counts_for pages) (frames_of pes.1))
 unit_from pages place size (Err fault) = if is_passed_over fault then aside else refused_unit
 
+-- what a unit with these bytes, ended by the packet of that place, is for these pages
 abbrev pub arrival_of_unit : Pages → ℕ → List ℕ → Arrival
 arrival_of_unit pages place bytes = unit_from pages place (length bytes) (pes_of bytes)
 
@@ -74,6 +75,7 @@ arrivals_of size pid pages packets = all_of (each_after (arrivals_at size pid pa
 
 -- ---- units that are too long
 
+-- what became of a unit is that it is too long for the demultiplexer
 abbrev pub is_over : Option Fate → Bool
 is_over None = false
 is_over (Some Waits) = false

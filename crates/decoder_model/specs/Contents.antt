@@ -9,6 +9,7 @@ use Rattle.decoder_model.specs.Readings.{Content}
 
 -- ---- the kinds
 
+-- the page composition that a segment stands for (7.2.2); none of another kind
 abbrev pub page_in : SegmentValue → Option Page
 page_in (of_page value) = Some value
 page_in (of_region value) = None
@@ -18,6 +19,7 @@ page_in (of_display value) = None
 page_in end_of_set = None
 page_in passed_over = None
 
+-- the region composition that a segment stands for (7.2.3); none of another kind
 abbrev pub region_in : SegmentValue → Option Region
 region_in (of_page value) = None
 region_in (of_region value) = Some value
@@ -27,6 +29,7 @@ region_in (of_display value) = None
 region_in end_of_set = None
 region_in passed_over = None
 
+-- the CLUT definition that a segment stands for (7.2.4); none of another kind
 abbrev pub clut_in : SegmentValue → Option Clut
 clut_in (of_page value) = None
 clut_in (of_region value) = None
@@ -36,6 +39,7 @@ clut_in (of_display value) = None
 clut_in end_of_set = None
 clut_in passed_over = None
 
+-- the object data that a segment stands for (7.2.5); none of another kind
 abbrev pub object_in : SegmentValue → Option Object
 object_in (of_page value) = None
 object_in (of_region value) = None
@@ -45,6 +49,7 @@ object_in (of_display value) = None
 object_in end_of_set = None
 object_in passed_over = None
 
+-- the display definition that a segment stands for (7.2.1); none of another kind
 abbrev pub display_in : SegmentValue → Option Display
 display_in (of_page value) = None
 display_in (of_region value) = None
@@ -54,18 +59,23 @@ display_in (of_display value) = Some value
 display_in end_of_set = None
 display_in passed_over = None
 
+-- the page composition of a segment that was read; none of another kind
 abbrev pub page_of : Content → Option Page
 page_of content = page_in content.value
 
+-- the region composition of a segment that was read; none of another kind
 abbrev pub region_of : Content → Option Region
 region_of content = region_in content.value
 
+-- the CLUT definition of a segment that was read; none of another kind
 abbrev pub clut_of : Content → Option Clut
 clut_of content = clut_in content.value
 
+-- the object data of a segment that was read; none of another kind
 abbrev pub object_of : Content → Option Object
 object_of content = object_in content.value
 
+-- the display definition of a segment that was read; none of another kind
 abbrev pub display_of : Content → Option Display
 display_of content = display_in content.value
 
@@ -75,21 +85,25 @@ display_of content = display_in content.value
 abbrev pub where_passes : {X : Type 0} → (X → Bool) → Option X → Option X
 where_passes test found = option_and_then (λ x. if test x then Some x else None) found
 
+-- the region composition of a segment, where its region_id is that one
 abbrev pub region_named : ℕ → Content → Option Region
 region_named id content = where_passes (λ region. region.head.region == id) (region_of content)
 
+-- the CLUT definition of a segment, where its CLUT_id is that one
 abbrev pub clut_named : ℕ → Content → Option Clut
 clut_named id content = where_passes (λ clut. clut.clut == id) (clut_of content)
 
+-- the object data of a segment, where its object_id is that one
 abbrev pub object_named : ℕ → Content → Option Object
 object_named id content = where_passes (λ object. object.object == id) (object_of content)
 
 -- ---- a set
 
--- the page of a set, and its display definition
+-- the page of a set: its first page composition segment
 abbrev pub page_in_set : List Content → Option Page
 page_in_set set = first_given page_of set
 
+-- the display of a set: its first display definition segment; none where it has no such segment
 abbrev pub display_in_set : List Content → Option Display
 display_in_set set = first_given display_of set
 

@@ -25,11 +25,12 @@ use Rattle.stream_syntax.specs.declared.wire.TheConstants.{DISPLAY_DEFINITION, P
 
 -- ---- the segments of a set, one by one
 
--- the contents among readings
+-- what a segment stands for, where it was read without a fault
 abbrev pub content_in : Reading → Option Content
 content_in (read content) = Some content
 content_in (faulty fault) = None
 
+-- what the segments without a fault of their own stand for, in their order
 abbrev pub contents_in : List Reading → List Content
 contents_in readings = filter_map content_in readings
 
@@ -67,6 +68,7 @@ display_or_default None =
     record { version = 0; width = DEFAULT_DISPLAY_WIDTH; height = DEFAULT_DISPLAY_HEIGHT; window = None }
 display_or_default (Some display) = display
 
+-- the display of an epoch with these segments, the latest first (7.2.1)
 abbrev pub display_in_force : List Content → Display
 display_in_force segments = display_or_default (last_display segments)
 
@@ -78,7 +80,7 @@ display_fault profile display =
 
 -- ---- regions
 
--- the first region that the page shows and no segment defines
+-- the region of an entry of the page, where none of the segments defines it
 abbrev pub unknown_region : List Content → PageEntry → Option SetFault
 unknown_region segments entry =
     if is_none (last_region entry.region segments) then Some (fault.NoSuchRegion entry.region) else None
@@ -173,6 +175,7 @@ abbrev pub first_fault_by : (List Content → Content → Option SetFault) → L
 first_fault_by test older set =
     first_given (λ (placed : Content × List Content). test placed.1 placed.0) (with_earlier older (in_order set))
 
+-- a segment behind earlier segments is a taken region segment that changes the size or depth of its region
 abbrev pub region_changed : List Content → Content → Option SetFault
 region_changed earlier content = changed_region earlier content.value (region_of content)
 

@@ -29,11 +29,12 @@ abbrev pub counts_for : Pages → Frame → Bool
 counts_for pages (segment bytes) = is_of_pages pages bytes
 counts_for pages (broken fault) = true
 
--- the bytes of the segments among frames, in order
+-- the bytes of a frame that is a segment; none of a fault
 abbrev pub segment_in : Frame → Option (List ℕ)
 segment_in (segment bytes) = Some bytes
 segment_in (broken fault) = None
 
+-- the bytes of the segments among frames, in order
 abbrev pub segments_in : List Frame → List (List ℕ)
 segments_in frames = filter_map segment_in frames
 
@@ -41,10 +42,12 @@ segments_in frames = filter_map segment_in frames
 abbrev pub bytes_in : List Frame → ℕ
 bytes_in frames = sum_by length (segments_in frames)
 
+-- the frame is an end_of_display_set_segment, by its segment_type
 abbrev pub is_end : Frame → Bool
 is_end (segment bytes) = byte_at 1 bytes == END_OF_DISPLAY_SET
 is_end (broken fault) = false
 
+-- the fault that stands in a data field in place of a segment
 abbrev pub fault_of : Frame → Option SegmentFault
 fault_of (segment bytes) = None
 fault_of (broken fault) = Some fault

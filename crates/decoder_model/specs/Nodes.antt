@@ -12,11 +12,13 @@ use Rattle.decoder_model.specs.Ink.{is_in_table}
 use Rattle.sub_base.specs.Lists.{different}
 use Rattle.decoder_model.specs.Taken.{Taken, taken_region}
 
+-- two ids are the same
 abbrev pub is_same : ℕ → ℕ → Bool
 is_same a b = a == b
 
 -- ---- regions and their pixels
 
+-- the region_id of a region composition segment
 abbrev pub region_id : Region → ℕ
 region_id region = region.head.region
 
@@ -28,6 +30,7 @@ region_ids taken = different is_same (map region_id (filter_map region_of taken.
 abbrev pub region_bytes : RegionHead → ℕ
 region_bytes head = depths.pixel_bytes head.width head.height head.depth
 
+-- the bytes of the pixels of a region, where there is one
 abbrev pub bytes_of_region : Option Region → ℕ
 bytes_of_region None = 0
 bytes_of_region (Some region) = region_bytes region.head
@@ -38,6 +41,7 @@ pixels_used taken = sum_by (λ id. bytes_of_region (taken_region id taken)) (reg
 
 -- ---- nodes
 
+-- the CLUT_id of a CLUT definition segment
 abbrev pub clut_id : Clut → ℕ
 clut_id clut = clut.clut
 
@@ -51,6 +55,7 @@ pub record TableEntry : Type 0 where
   pub depth : Depth
   pub entry : ℕ
 
+-- two are one entry of one table of a CLUT: they have the same CLUT_id, depth and number
 abbrev pub is_same_entry : TableEntry → TableEntry → Bool
 is_same_entry a b = (a.clut == b.clut) && (depths.is_same_depth a.depth b.depth && (a.entry == b.entry))
 
@@ -60,9 +65,11 @@ in_table clut entry depth =
     if is_in_table depth entry && nat_lt entry.entry (depths.code_count depth)
     then Some (record { clut = clut; depth = depth; entry = entry.entry }) else None
 
+-- the entries of the 2-bit, 4-bit and 8-bit tables of a CLUT that one entry of its segment sets
 abbrev pub in_tables : ℕ → ClutEntry → List TableEntry
 in_tables clut entry = filter_map (in_table clut entry) (Two ∷ Four ∷ Eight ∷ [])
 
+-- the entries of tables that a CLUT segment sets
 abbrev pub entries_of_clut : Clut → List TableEntry
 entries_of_clut clut = flat_map (in_tables clut.clut) clut.entries
 
@@ -70,6 +77,7 @@ entries_of_clut clut = flat_map (in_tables clut.clut) clut.entries
 unfoldable pub table_entries : Taken → List TableEntry
 table_entries taken = different is_same_entry (flat_map entries_of_clut (filter_map clut_of taken.segments))
 
+-- how many objects a region lists, where there is a region
 abbrev pub listing_count : Option Region → ℕ
 listing_count None = 0
 listing_count (Some region) = length region.listings

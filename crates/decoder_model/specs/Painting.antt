@@ -14,10 +14,11 @@ use Rattle.decoder_model.specs.Verdict.{verdict_of}
 use Rattle.decoder_model.specs.declared.set_end.SetEnd.{SetEnd}
 use Rattle.decoder_model.specs.declared.set_end.SetEnd.TheVariants.{Shown, Waiting}
 
--- the ticks that painting a region takes, and all regions of a set
+-- the ticks that painting a region takes
 abbrev pub region_painting : Region → ℕ
 region_painting region = painting_ticks region.head.width region.head.height
 
+-- the ticks that painting all regions of a set takes: each of its region segments, taken or not
 abbrev pub set_painting : List Content → ℕ
 set_painting set = sum_by region_painting (filter_map region_of set)
 

@@ -15,6 +15,7 @@ use Rattle.decoder_model.specs.Taken.{Taken, taken_region, has_new_version}
 
 -- ---- which listings an object paints
 
+-- the object_version_number of an object, where there is one
 abbrev pub version_of_object : Option Object → Option ℕ
 version_of_object None = None
 version_of_object (Some object) = Some object.version
@@ -40,6 +41,8 @@ listings_by false object region = []
 listings_by true object None = []
 listings_by true object (Some region) = listings_naming object.object region.listings
 
+-- the listings that an object behind earlier taken segments paints in the region of that id: those that name it, where
+-- it is new, or has another version than the last time, since the region's last segment
 unfoldable pub painted_listings : Taken → ℕ → Object → List Listing
 painted_listings earlier id object = listings_by (is_painting earlier id object) object (taken_region id earlier)
 

@@ -41,10 +41,11 @@ abbrev pub is_ended : ℕ → List Frame → Bool
 is_ended coded front =
     list_any is_end front || list_any (λ frame. is_some (fault_of frame)) front || nat_lt coded (bytes_in front)
 
--- the frames of units, in order, and how many bytes the units have
+-- the frames of units, in order
 abbrev pub frames_in : List PesUnit → List Frame
 frames_in units = flat_map (λ (one : PesUnit). one.frames) units
 
+-- how many bytes the PES packets of units have together
 abbrev pub size_in : List PesUnit → ℕ
 size_in units = sum_by (λ (one : PesUnit). one.size) units
 
@@ -61,7 +62,7 @@ pub data Delivery (S : Type 0) : Type 0 where
   whole : ℕ → ℕ → List S → Delivery S
   refused : ℕ → ℕ → SetFault → Delivery S
 
--- why the set with these frames is refused: its fault, or how many bytes its segments have
+-- the first fault that stands among the frames of a set, for which the set is refused
 abbrev pub first_fault_in : List Frame → Option SetFault
 first_fault_in frames = option_map Segment (first_given fault_of frames)
 
@@ -69,6 +70,7 @@ first_fault_in frames = option_map Segment (first_given fault_of frames)
 abbrev pub excess_in : ℕ → List Frame → Option SetFault
 excess_in coded front = if nat_lt coded (bytes_in front) then Some (SetTooLong (bytes_in front)) else None
 
+-- the set with that time, the bytes of its units and its frames up to its end: whole, or refused for a fault
 abbrev pub handed : ℕ → ℕ → List Frame → Option SetFault → Delivery (List ℕ)
 handed time size front None = whole time size (segments_in front)
 handed time size front (Some fault) = refused time size fault

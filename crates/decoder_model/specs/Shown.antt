@@ -59,6 +59,7 @@ abbrev pub window_or_all : Display → Option Window → Window
 window_or_all display None = record { left = 0; right = display.width - 1; top = 0; bottom = display.height - 1 }
 window_or_all display (Some window) = window
 
+-- the part of a display in which regions stand (7.2.1)
 abbrev pub window_of : Display → Window
 window_of display = window_or_all display display.window
 
@@ -91,10 +92,11 @@ colour_at scene x y =
     then unwrap_or (last_given (colour_by_entry scene.taken (window_of scene.display) x y) scene.entries) clear
     else clear
 
--- a row of the picture, and the whole picture
+-- a row of the picture of a page, from the left
 abbrev pub row_of : Scene → ℕ → List Colour
 row_of scene y = map (λ x. colour_at scene x y) (range_with_len 0 scene.display.width)
 
+-- the picture of a page, as large as its display
 abbrev pub plane_of : Scene → Plane
 plane_of scene = record {
   width = scene.display.width;
@@ -118,6 +120,8 @@ pub record Standing : Type 0 where
   pub page : Page
   pub scene : Scene
 
+-- what stands with a set of that lifted time: its page in the epoch that is known with it; nothing without a page
+-- or where no epoch is known
 abbrev pub standing_in : ℕ → Option Page → Option (List (List Content)) → Option Standing
 standing_in lifted (Some page) (Some epoch) = Some (record { time = lifted; page = page; scene = scene_in epoch page })
 standing_in lifted page epoch = None
@@ -144,6 +148,7 @@ until_of standing = if standing.page.time_out == 0 then None else Some (standing
 
 -- ---- the view at a tick
 
+-- at a tick the page is timed out, by the tick of its time-out, where it has one
 abbrev pub is_over_at : ℕ → Option ℕ → Bool
 is_over_at tick None = false
 is_over_at tick (Some until) = nat_le until tick

@@ -15,10 +15,11 @@ pub record Sending : Type 0 where
   pub packet : List ℕ
   pub received : Bool
 
--- a payload packet of the PID that is received, and one that is not
+-- a payload packet of the PID that is received
 abbrev pub is_received : ℕ → Sending → Bool
 is_received pid sending = sending.received && is_payload pid sending.packet
 
+-- a payload packet of the PID that is not received
 abbrev pub is_missed : ℕ → Sending → Bool
 is_missed pid sending = not sending.received && is_payload pid sending.packet
 

@@ -27,10 +27,12 @@ abbrev pub has_new_version : ℕ → Option ℕ → Bool
 has_new_version version None = true
 has_new_version version (Some last) = not (last == version)
 
+-- the region_version_number of a region, where there is one (7.2.3)
 abbrev pub version_of_region : Option Region → Option ℕ
 version_of_region None = None
 version_of_region (Some region) = Some region.head.version
 
+-- the CLUT_version_number of a CLUT, where there is one (7.2.4)
 abbrev pub version_of_clut : Option Clut → Option ℕ
 version_of_clut None = None
 version_of_clut (Some clut) = Some clut.version
@@ -57,6 +59,7 @@ taken_among [] = []
 taken_among (segment ∷ earlier) =
     if is_taken earlier segment.value then segment ∷ taken_among earlier else taken_among earlier
 
+-- the taken segments among those of an epoch, the latest first
 abbrev pub taken_of : List Content → Taken
 taken_of segments = record { segments = taken_among segments }
 

@@ -50,7 +50,7 @@ usual_segments =
     ∷ (0x0F ∷ 0x80 ∷ 0x00 ∷ 0x01 ∷ 0x00 ∷ 0x00 ∷ [])
     ∷ []
 
--- what they stand for
+-- what its page composition segment stands for
 unfoldable pub usual_page : Content
 usual_page = record {
   value =
@@ -65,6 +65,7 @@ usual_page = record {
   bottom = [];
 }
 
+-- what its region composition segment stands for
 unfoldable pub usual_region : Content
 usual_region = record {
   value = of_region (record {
@@ -87,6 +88,7 @@ usual_region = record {
   bottom = [];
 }
 
+-- what its object data segment stands for, with the sub-blocks of its top field
 unfoldable pub usual_object : Content
 usual_object = record {
   value =
@@ -103,12 +105,15 @@ usual_object = record {
   bottom = [];
 }
 
+-- what its end_of_display_set_segment stands for
 unfoldable pub usual_end : Content
 usual_end = record { value = end_of_set; top = []; bottom = [] }
 
+-- what all segments of its set stand for, in their order
 unfoldable pub usual_contents : List Content
 usual_contents = usual_page ∷ usual_region ∷ usual_object ∷ usual_end ∷ []
 
+-- its set as it is read: whole, at 90,000 ticks, from a PES packet of 84 bytes
 unfoldable pub usual_delivery : Delivery Reading
 usual_delivery = whole 90000 84 (read usual_page ∷ read usual_region ∷ read usual_object ∷ read usual_end ∷ [])
 

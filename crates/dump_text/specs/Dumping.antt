@@ -22,7 +22,7 @@ use Rattle.dump_text.specs.DumpText.{IsDumpText, shown_text, view_text}
 abbrev pub AreFrom : ℕ → ℕ → List ℕ → Type 0
 AreFrom least place ticks = (k : ℕ) → place ≤ k → k < length ticks → least ≤ slice_index_or ticks k 0
 
--- the ticks of two places, and those between them, are less than that
+-- the ticks from a place on, up to another place, are less than that
 abbrev pub AreBefore : ℕ → ℕ → ℕ → List ℕ → Type 0
 AreBefore end first next ticks = (k : ℕ) → first ≤ k → k < next → slice_index_or ticks k 0 < end
 

@@ -108,7 +108,7 @@ stream_whole Told pid before now out_before out_now (status.ScriptRefused fault)
 stream_whole Told pid before now out_before out_now (status.PlanRefused fault) cause written calm = absurd cause
 stream_whole Told pid before now out_before out_now (status.ScheduleRefused row fault) cause written calm = absurd cause
 stream_whole Told pid before now out_before out_now (status.StreamRefused packet fault) cause written calm =
-    absurd (calm.right.right cause.packets cause.refused cause.rest fault cause.taken cause.whole cause.fault_is)
+    absurd (calm.valid.unrefused cause.packets cause.refused cause.rest fault cause.taken cause.whole cause.fault_is)
 stream_whole Told pid before now out_before out_now (status.ReadFault which.First) cause written calm =
     absurd (calm.read cause.0)
 stream_whole Told pid before now out_before out_now (status.ReadFault which.Second) cause written calm = absurd cause
@@ -121,7 +121,7 @@ stream_whole Told pid before now out_before out_now (status.WriteFault which.Sec
 stream_whole Told pid before now out_before out_now (status.WriteFault which.Notes) cause written calm = absurd cause
 stream_whole Told pid before now out_before out_now status.Memory cause written calm = inr refl
 stream_whole Told pid before now out_before out_now (status.InputTooLong which.First) cause written calm =
-    absurd (calm.right.within cause.0)
+    absurd (calm.valid.within cause.0)
 stream_whole Told pid before now out_before out_now (status.InputTooLong which.Second) cause written calm = absurd cause
 stream_whole Told pid before now out_before out_now (status.InputTooLong which.Out) cause written calm = absurd cause
 stream_whole Told pid before now out_before out_now (status.InputTooLong which.Notes) cause written calm = absurd cause
@@ -147,19 +147,19 @@ gen_whole number name before now (status.InputTooLong which) cause written = abs
 run_whole : (words : List (List ℕ)) (command : Option Command) (before now : Seen) (notes_before notes_now : Received)
     (run : Status) → IsCausedBy words command before now run →
     IsUntroubled command before now notes_before notes_now → IsWhole run
-run_whole words None before now notes_before notes_now run cause calm = absurd calm.right
+run_whole words None before now notes_before notes_now run cause calm = absurd calm.valid
 run_whole words (Some (command.Compile profile pid page has_font)) before now notes_before notes_now run cause calm =
-    compile_whole profile pid page has_font before now run cause calm.written calm.right
+    compile_whole profile pid page has_font before now run cause calm.written calm.valid
 run_whole words (Some (command.List pid)) before now notes_before notes_now run cause calm =
-    stream_whole (lists pid) pid before.first now.first before.out now.out run cause calm.written calm.right
+    stream_whole (lists pid) pid before.first now.first before.out now.out run cause calm.written calm.valid
 run_whole words (Some (command.Dump profile pid page bands)) before now notes_before notes_now run cause calm =
     stream_whole (dumps profile pid page (asked_ticks 7 words)) pid before.first now.first before.out now.out run cause
-    calm.written calm.right
+    calm.written calm.valid
 run_whole words (Some (command.Check profile origin pid page)) before now notes_before notes_now run cause calm =
     stream_whole (checks profile origin pid page) pid before.first now.first before.out now.out run cause calm.written
-    calm.right
+    calm.valid
 run_whole words (Some (command.Expect has_font)) before now notes_before notes_now run cause calm =
-    expect_whole has_font _ before now run cause calm.written calm.right
+    expect_whole has_font _ before now run cause calm.written calm.valid
 run_whole words (Some (command.Gen number profile)) before now notes_before notes_now run cause calm =
     gen_whole number profile before.out now.out run cause.0 calm.written
 

@@ -27,7 +27,7 @@ pub record IsUntroubled (command : Option Command) (before now : Seen)
     (notes_before notes_now : Received) : Type 0 where
   pub written : HasRisen before.out.faults now.out.faults → ⊥
   pub told : HasRisen notes_before.faults notes_now.faults → ⊥
-  pub right : IsValidInput command before now
+  pub valid : IsValidInput command before now
 
 -- where nothing gives a cause of refusal, the command is done whole, or memory is wanting
 abbrev pub IsComplete : List (List ℕ) → Seen → Seen → Received → Received → Status → Type 0

@@ -15,10 +15,11 @@ use Rattle.sub_base.specs.Pace.{pace_of}
 use Rattle.sub_base.specs.Profile.{profile_of}
 use Rattle.sub_base.specs.declared.profile.ProfileName.{ProfileName}
 
--- the PID of the packets, and the page of their segments
+-- the PID of the packets of a generated script
 abbrev pub generated_pid : ℕ
 generated_pid = 256
 
+-- the page (page_id) of the segments of a generated script
 abbrev pub generated_page : ℕ
 generated_page = 1
 

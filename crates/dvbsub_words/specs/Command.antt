@@ -32,10 +32,11 @@ list_of words = if (length words == 4) && has_word words 0 (codes "list") then (
   pid ← pid_of (word_at words 1)
   Some (command.List pid)) else None
 
--- `expect SCRIPT FONT OUT TICK...`, with 1 to 1,000 rising ticks
+-- the words are `expect SCRIPT FONT OUT TICK...`, with 1 to 1,000 rising ticks
 abbrev pub is_expect : List (List ℕ) → Bool
 is_expect words = has_ticks 4 words && has_word words 0 (codes "expect")
 
+-- the command that such words are, by whether they name a font
 abbrev pub expect_of : List (List ℕ) → Option Command
 expect_of words = if is_expect words then Some (command.Expect (names_font (word_at words 2))) else None
 

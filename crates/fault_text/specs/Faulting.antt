@@ -114,6 +114,7 @@ abbrev pub bytes_in_content : Result (List ℕ) SetFault → List ℕ
 bytes_in_content (Ok bytes) = bytes
 bytes_in_content (Err fault) = []
 
+-- the bytes of the set that is ready, where one is
 abbrev pub bytes_ready : Option ReadySet → List ℕ
 bytes_ready None = []
 bytes_ready (Some set) = bytes_in_content set.content

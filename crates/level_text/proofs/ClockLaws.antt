@@ -314,13 +314,13 @@ pub more_waits : (clocking : Clocking) (held : List HeldPacket) (packet : List �
       since = clocking.since;
       waiting = clocking.waiting + 1;
     })
-more_waits clocking held packet is right held_is near = record {
+more_waits clocking held packet is faultless held_is near = record {
   sample = is.sample;
   few = omega (arith, near);
   fewer =
       subst (λ (all : List HeldPacket). length all ≤ clocking.waiting + 1) (sym held_is)
       (longer (pid_of packet == clocking.meter.asked.pid));
-  right =
+  waits =
       subst (λ (all : List HeldPacket). AreHeld clocking.meter.asked.pid clocking.since
       (clocking.since + (clocking.waiting + 1)) all) (sym held_is)
       (subst (λ (end : ℕ). AreHeld clocking.meter.asked.pid clocking.since end
@@ -351,10 +351,10 @@ more_waits clocking held packet is right held_is near = record {
         (held_with own clocking.held (clocking.since + clocking.waiting) packet)
     all_right true =
         one_more_held clocking.meter.asked.pid clocking.since (clocking.since + clocking.waiting) clocking.held packet
-        (omega arith) is.right right
+        (omega arith) is.waits faultless
     all_right false =
         held_before clocking.meter.asked.pid clocking.since (clocking.since + clocking.waiting)
-        (clocking.since + clocking.waiting + 1) clocking.held (omega arith) is.right
+        (clocking.since + clocking.waiting + 1) clocking.held (omega arith) is.waits
 
 -- ---- the end
 

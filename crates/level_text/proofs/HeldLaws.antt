@@ -75,7 +75,7 @@ none_own pid since (packet ∷ packets) none sound =
         → IsOther pid packet × AreOthers pid packets
     by true is none rest = absurd (cc)
     by false is none rest =
-        (record { bytes = sound.0.bytes; right = sound.0.right; other = is }, rest none)
+        (record { bytes = sound.0.bytes; faultless = sound.0.faultless; other = is }, rest none)
 
 -- they were taken as well
 others_metered : (slot_of : ℕ → ℕ) (sets : Checking) (taken packets : List (List ℕ)) (text : List ℕ)
@@ -249,12 +249,12 @@ first_held pid from end index held d within are =
 pub one_more_held : (pid from behind : ℕ) (held : List HeldPacket) (packet : List ℕ) → from ≤ behind
     → AreHeld pid from behind held → packet_fault pid packet ≡ None
     → AreHeld pid from (behind + 1) (held ++ record { behind = behind; packet = packet } ∷ [])
-one_more_held pid from behind [] packet low are right = (low, omega arith, right, tt)
-one_more_held pid from behind (one ∷ held) packet low are right = (
+one_more_held pid from behind [] packet low are faultless = (low, omega arith, faultless, tt)
+one_more_held pid from behind (one ∷ held) packet low are faultless = (
   are.0,
   omega (arith, are.1),
   are.2,
-  one_more_held pid (one.behind + 1) behind held packet (omega (arith, are.1)) are.3 right,
+  one_more_held pid (one.behind + 1) behind held packet (omega (arith, are.1)) are.3 faultless,
 )
 
 -- the same where more packets come

@@ -35,7 +35,7 @@ pub record IsClocking (clocking : Clocking) : Type 0 where
   pub sample : IsLastSample clocking.last clocking.since
   pub few : clocking.waiting ≤ MOST_BETWEEN - clocking.since
   pub fewer : length clocking.held ≤ clocking.waiting
-  pub right : AreHeld clocking.meter.asked.pid clocking.since (clocking.since + clocking.waiting) clocking.held
+  pub waits : AreHeld clocking.meter.asked.pid clocking.since (clocking.since + clocking.waiting) clocking.held
   pub told : last_told clocking.meter.sets ≤ last_tick clocking.last
   pub within : clocking.since + clocking.waiting ≤ STREAM_LIMIT
 

@@ -40,7 +40,7 @@ AreHeld pid from end (one ∷ held) =
 -- a packet of bytes that can be taken
 pub record IsValidPacket (pid : ℕ) (packet : List ℕ) : Type 0 where
   pub bytes : AreAllBytes packet
-  pub right : packet_fault pid packet ≡ None
+  pub faultless : packet_fault pid packet ≡ None
 
 -- each of these packets is of bytes and can be taken
 abbrev pub AreValidPackets : ℕ → List (List ℕ) → Type 0

@@ -106,7 +106,7 @@ impl AnchoredMeter {
     )
         requires later { last_told self.old.sets ≤ tick }
         requires small { tick < 2 ^ 62 }
-        requires right { packet_fault self.old.asked.pid packet.now ≡ None }
+        requires faultless { packet_fault self.old.asked.pid packet.now ≡ None }
         ensures asked { self.new.asked ≡ self.old.asked }
         ensures last { last_told self.new.sets ≤ tick }
         ensures told { TakesTimed
@@ -131,7 +131,7 @@ impl AnchoredMeter {
     )
         requires later { last_told self.old.sets ≤ tick }
         requires small { tick < 2 ^ 62 }
-        requires right { packet_fault self.old.asked.pid packet.now ≡ None }
+        requires faultless { packet_fault self.old.asked.pid packet.now ≡ None }
         ensures asked { self.new.asked ≡ self.old.asked }
         ensures last { last_told self.new.sets ≤ tick }
         ensures told { TakesTimed

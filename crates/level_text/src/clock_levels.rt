@@ -142,7 +142,7 @@ impl ClockLevels {
     )
         requires few { self.old.since + self.old.waiting < STREAM_LIMIT }
         requires sample { sample < CLOCK_LIMIT }
-        requires right { packet_fault self.old.meter.asked.pid packet.now ≡ None }
+        requires faultless { packet_fault self.old.meter.asked.pid packet.now ≡ None }
         ensures asked { self.new.meter.asked ≡ self.old.meter.asked }
         ensures told { TakesSampled
             (K.received out.old)
@@ -171,7 +171,7 @@ impl ClockLevels {
     /// Takes a packet without a sample: it waits, where the next sample may be near enough.
     fn take_unsampled<K: Sink>(&mut self, out: &mut K, buffer: &mut TextBuffer, packet: &[u8; 188])
         requires few { self.old.since + self.old.waiting < STREAM_LIMIT }
-        requires right { packet_fault self.old.meter.asked.pid packet.now ≡ None }
+        requires faultless { packet_fault self.old.meter.asked.pid packet.now ≡ None }
         ensures asked { self.new.meter.asked ≡ self.old.meter.asked }
         ensures told { TakesSampled
             (K.received out.old)
@@ -188,7 +188,7 @@ impl ClockLevels {
     /// A packet without a sample waits, and is held where it is of the PID.
     fn hold(&mut self, packet: &[u8; 188])
         requires room { self.old.since + self.old.waiting < MOST_BETWEEN }
-        requires right { packet_fault self.old.meter.asked.pid packet.now ≡ None }
+        requires faultless { packet_fault self.old.meter.asked.pid packet.now ≡ None }
         ensures asked { self.new.meter.asked ≡ self.old.meter.asked }
         ensures told { Holds self.old self.new packet.now }
     {
@@ -207,7 +207,7 @@ impl ClockLevels {
     fn take_far<K: Sink>(&mut self, out: &mut K, buffer: &mut TextBuffer, packet: &[u8; 188])
         requires few { self.old.since + self.old.waiting < STREAM_LIMIT }
         requires far { MOST_BETWEEN ≤ self.old.since + self.old.waiting }
-        requires right { packet_fault self.old.meter.asked.pid packet.now ≡ None }
+        requires faultless { packet_fault self.old.meter.asked.pid packet.now ≡ None }
         ensures asked { self.new.meter.asked ≡ self.old.meter.asked }
         ensures told { TakesSampled
             (K.received out.old)

@@ -11,7 +11,7 @@ use Rattle.segments.specs.declared.frame.Frame.{Frame as FrameOfBytes}
 use Rattle.segments.specs.Framing.{IsFrameOf, IsFirstFrame}
 use Rattle.segments.proofs.Framing.{body_size}
 use Rattle.list_text.specs.ListLines.{segment_line, fault_line, unit_line}
-use Rattle.list_text.specs.ListText.{IsSegmentLine, right, AreFrameLines, AreSegmentLines, none_left, cut_line, line_first, AreUnitLines, of_subtitles}
+use Rattle.list_text.specs.ListText.{IsSegmentLine, valid, AreFrameLines, AreSegmentLines, none_left, cut_line, line_first, AreUnitLines, of_subtitles}
 use Rattle.command_text.specs.Putting.{Buffered, PutsOut}
 use Rattle.sub_base.specs.Endpoints.{Received}
 use Rattle.command_text.proofs.PutLaws.{PutsOut-nothing, PutsOut-both}
@@ -21,7 +21,7 @@ pub valid_line : (place : ℕ) (frame : FrameOfBytes) (bytes line : List ℕ) (v
     → IsFrameOf bytes frame → frame.whole ≡ length bytes → IsSegment (take frame.whole bytes) value
     → line ≡ segment_line place frame.kind frame.page (length frame.body.now) → IsSegmentLine place bytes line
 valid_line place frame bytes line value framed exact is line_is =
-    right value
+    valid value
     (subst (λ (front : List ℕ). IsSegment front value) (ap (λ n. take n bytes) exact ∙ take-length bytes) is)
     (line_is ∙
     (ap (λ (k : ℕ). segment_line place k frame.page (length frame.body.now)) framed.kind_is

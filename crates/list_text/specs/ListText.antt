@@ -14,7 +14,7 @@ use Rattle.list_text.specs.ListLines.{loss_line, unit_line, pes_line, segment_li
 
 -- the line of a segment at that place of its field: of what its head says, or of its first fault
 pub data IsSegmentLine : ℕ → List ℕ → List ℕ → Type 0 where
-  right : {place : ℕ} {bytes line : List ℕ} (value : SegmentValue) → IsSegment bytes value
+  valid : {place : ℕ} {bytes line : List ℕ} (value : SegmentValue) → IsSegment bytes value
       → line ≡ segment_line place (byte_at 1 bytes) (word_at 2 bytes) (word_at 4 bytes)
       → IsSegmentLine place bytes line
   refused : {place : ℕ} {bytes line : List ℕ} (fault : SegmentFault) → IsSegmentFault bytes fault

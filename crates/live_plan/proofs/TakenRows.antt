@@ -19,7 +19,7 @@ use Rattle.cue_records.specs.declared.row_kind.RowKind.{RowKind}
 use Rattle.cue_records.specs.declared.row_kind.RowKind.TheVariants as kinds
 use Rattle.cue_list.specs.declared.script.Script.{Script}
 use Rattle.cue_list.proofs.FactLaws.{IsValidRow-from}
-use Rattle.cue_records.proofs.TestLaws.{passed, right}
+use Rattle.cue_records.proofs.TestLaws.{passed, not-wrong}
 use Rattle.live_plan.specs.LetIn.{LetIn}
 use Rattle.live_plan.specs.LiveRows.{Inserter, IsLetIn, RowOrTick, row, tick, early_behind, early_tick, has_epoch, is_within, last_tick, nearest_in, next_record, records_in, rows_in}
 use Rattle.live_plan.specs.declared.limits.TheConstants.{AHEAD}
@@ -120,11 +120,11 @@ row_right inserter past cells is =
 pub tick_above : (known : ScriptPast) (last : Option ℕ) (cells : Row) → tick_row_fault known last cells ≡ None
     → is_not_above last (value_at cells 1) ≡ false
 tick_above known last cells tests =
-    let text = right (not (is_text_row cells)) faults.NotUtf8 _ tests in
-    let count = right (not (length cells == 2)) faults.Count _ text.1 in
-    let begun = right (known.rows == 0) faults.Order _ count.1 in
+    let text = not-wrong (not (is_text_row cells)) faults.NotUtf8 _ tests in
+    let count = not-wrong (not (length cells == 2)) faults.Count _ text.1 in
+    let begun = not-wrong (known.rows == 0) faults.Order _ count.1 in
     let number = passed (tick_fault known.origin (cell_at cells 1)) _ begun.1 in
-    (right (is_not_above last (value_at cells 1)) faults.Order _ number.1).0
+    (not-wrong (is_not_above last (value_at cells 1)) faults.Order _ number.1).0
 
 -- and so does one that is let in
 pub ticks_rise : (inserter : Inserter) (past : List RowOrTick) (time : ℕ) → IsTickIn inserter past time

@@ -282,8 +282,8 @@ module _ (command : LiveCommand) (before now : Seen) (notes_before notes_now : R
       → IsToolUntroubled LiveFault (live_causes command before now) before now notes_before notes_now → IsWhole run
   untroubled lines tool.Done end calm = inl refl
   untroubled lines tool.Usage end calm = absurd end
-  untroubled lines (tool.Refused (live.Font fault)) end calm = absurd (calm.right (live.Font fault) (lines, end))
-  untroubled lines (tool.Refused live.NoEpoch) end calm = absurd (calm.right live.NoEpoch (lines, end))
+  untroubled lines (tool.Refused (live.Font fault)) end calm = absurd (calm.unrefused (live.Font fault) (lines, end))
+  untroubled lines (tool.Refused live.NoEpoch) end calm = absurd (calm.unrefused live.NoEpoch (lines, end))
   untroubled lines (tool.ReadFault which.First) end calm = absurd (calm.first_read end.0)
   untroubled lines (tool.ReadFault which.Second) end calm = absurd (calm.second_read end.1)
   untroubled lines (tool.ReadFault which.Out) end calm = absurd end

@@ -92,6 +92,7 @@ early_behind font past cells (Some time) =
     if not (is_tick_row cells) && is_within (early_tick font past cells) (time + AHEAD)
     then Some (time + AHEAD) else None
 
+-- the horizon that a row does not lie above, if there is one, behind what was let in; tick rows are not tested
 abbrev pub early_of : FontValue → List RowOrTick → Row → Option ℕ
 early_of font past cells = early_behind font past cells (last_tick past)
 
@@ -184,5 +185,6 @@ IsDueBy inserter past (Some time) bytes =
     (packets : List ℕ) × IsBatchOf inserter (before_tick past) packets
     × (bytes ≡ due_front inserter (before_tick past) time packets)
 
+-- the bytes of the packets that are due with what was let in: none where no tick row came
 abbrev pub IsDue : Inserter → List RowOrTick → List ℕ → Type 0
 IsDue inserter past bytes = IsDueBy inserter past (last_tick past) bytes

@@ -32,6 +32,7 @@ abbrev pub places_of : Option LiveCommand → InputPlaces
 places_of None = no_places
 places_of (Some command) = record { first = Some 4; second = live_font_place command.has_font; out = Some 6 }
 
+-- where the files of `live` stand among these words
 abbrev pub live_places : List (List ℕ) → InputPlaces
 live_places words = places_of (live_words words)
 

@@ -42,7 +42,8 @@ ClosesWalk before now buffer run answer = (start : Received) (text : List ℕ) �
     ⊎ ((answer ≡ told_end.Unwritten) × AppendsPrefix start.written now.written text
     × HasRisen start.faults now.faults)
 
--- what is answered by the end of the walk, once the text that waits is written
+-- what is answered by the end of the walk, once the text that waits is written; of a stream that is too long, and of
+-- one whose text could not be written, nothing more is written
 abbrev pub ClosesEnd : Received → Received → Buffered → WalkEnd → ToldEnd → Type 0
 ClosesEnd before now buffer (end.Stream (stream.Whole cut)) answer =
     ClosesWalk before now buffer (told_end.Done cut) answer

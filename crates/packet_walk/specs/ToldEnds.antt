@@ -90,11 +90,11 @@ IsToldEnd Told pid before now out_before out_now told_end.Memory = (now ≡ befo
 -- the stream is within its limit, and no packet of it is refused
 pub record IsValidStream (pid : ℕ) (before now : Supplied) : Type 0 where
   pub within : HasRisenPast STREAM_LIMIT before.given now.given → ⊥
-  pub right : (packets : List (List ℕ)) (packet rest : List ℕ) (fault : PacketFault)
+  pub unrefused : (packets : List (List ℕ)) (packet rest : List ℕ) (fault : PacketFault)
       → AreTaken pid before now packets (packet ++ rest) → length packet ≡ PACKET_LENGTH
       → packet_fault pid packet ≡ Some fault → ⊥
 
 -- a stream that was read whole, within its limit, and of which no packet is refused
 pub record IsReadableStream (pid : ℕ) (before now : Supplied) : Type 0 where
   pub read : HasRisen before.faults now.faults → ⊥
-  pub right : IsValidStream pid before now
+  pub valid : IsValidStream pid before now

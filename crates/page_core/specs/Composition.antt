@@ -37,10 +37,11 @@ pub record Composition : Type 0 where
 abbrev pub no_composition : ℕ → Composition
 no_composition nodes = record { size = nodes; entries = []; regions = []; cluts = []; set_entries = []; free = nodes }
 
--- the region of that id, and the CLUT of that id
+-- the region of that id, where the epoch has one
 abbrev pub region_in : Composition → ℕ → Option KeptRegion
 region_in composition id = find (λ (kept : KeptRegion). kept.head.region == id) composition.regions
 
+-- the CLUT of that id, where the epoch has one
 abbrev pub clut_in : Composition → ℕ → Option KeptClut
 clut_in composition id = find (λ (kept : KeptClut). kept.clut == id) composition.cluts
 

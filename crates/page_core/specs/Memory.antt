@@ -53,6 +53,7 @@ code_in memory kept x y = code_of (region_at memory.store kept.slot) x y
 abbrev pub colours_of_clut : ℕ
 colours_of_clut = 276
 
+-- where the table of a depth begins among the colours of its CLUT
 abbrev pub first_of_table : Depth → ℕ
 first_of_table Two = 0
 first_of_table Four = 4
@@ -148,6 +149,7 @@ kept_listing taken id listing =
           (first_given (object_named listing.object) (since_region id taken));
     }
 
+-- the head of a region segment: all of it but the objects that it lists
 abbrev pub head_of : Region → RegionHead
 head_of region = region.head
 

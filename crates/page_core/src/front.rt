@@ -37,7 +37,7 @@ pub(crate) fn read_one<'a>(frame: &Frame<'a>) -> Result<Segment<'a>, SegmentFaul
     requires { IsFrame frame.now }
     ensures matches { (segment : List ℕ) (reading : Reading) → IsFrameOf segment frame.now
         → IsReading segment reading → Matches result reading }
-    ensures right { IfOk result (λ segment. IsValidValue (contents segment)) }
+    ensures valid { IfOk result (λ segment. IsValidValue (contents segment)) }
 {
     frame.segment()
 }

@@ -89,7 +89,7 @@ pub(crate) fn take_all(composition: &mut CompositionMemory, store: &mut Store, b
 // nothing is done then.
 fn take_one(composition: &mut CompositionMemory, store: &mut Store, region: &RegionSeg<'_>)
     requires stored { AreStored composition.old store.old }
-    requires right { IsValidHead (region_value region.now).head }
+    requires valid { IsValidHead (region_value region.now).head }
     ensures taken { IsRegionTaken (region_value region.now) composition.old store.old
         composition.new store.new }
     ensures stored { AreStored composition.new store.new }
@@ -105,7 +105,7 @@ fn take_one(composition: &mut CompositionMemory, store: &mut Store, region: &Reg
 // Takes a region segment that is new in the epoch, where there is room.
 fn take_first(composition: &mut CompositionMemory, store: &mut Store, region: &RegionSeg<'_>)
     requires stored { AreStored composition.old store.old }
-    requires right { IsValidHead (region_value region.now).head }
+    requires valid { IsValidHead (region_value region.now).head }
     requires new { region_in composition.old region.now.region ≡ None }
     ensures taken { 1 + length (region_value region.now).listings ≤ composition.old.free
         → pixel_bytes region.now.width region.now.height region.now.depth ≤ store.old.free
@@ -131,7 +131,7 @@ fn put_in(
     slot: Slot,
 )
     requires placed { HasRegion (region_value region.now).head slot store.old }
-    requires right { IsValidHead (region_value region.now).head }
+    requires valid { IsValidHead (region_value region.now).head }
     requires new { region_in composition.old region.now.region ≡ None }
     requires counted { composition.old.free + taken_nodes composition.old ≡ composition.old.size }
     requires apart { AreIdsApart composition.old.regions }
@@ -161,7 +161,7 @@ fn take_again(
     known: RegionNode,
 )
     requires stored { AreStored composition.old store.old }
-    requires right { IsValidHead (region_value region.now).head }
+    requires valid { IsValidHead (region_value region.now).head }
     requires known { IsRegionIn composition.old region.now.region (Some known) }
     ensures held { is_new (region_value region.now).head (Some known.head) ≡ false
         → (composition.new ≡ composition.old) × (store.new ≡ store.old) }
@@ -185,7 +185,7 @@ fn take_again(
 // Gives a region the head and the listings of a segment, and fills it where the segment says so.
 fn renew(composition: &mut CompositionMemory, store: &mut Store, region: &RegionSeg<'_>, slot: Slot)
     requires placed { HasRegion (region_value region.now).head slot store.old }
-    requires right { IsValidHead (region_value region.now).head }
+    requires valid { IsValidHead (region_value region.now).head }
     requires known { slot_in composition.old region.now.region ≡ Some slot }
     requires apart { AreIdsApart composition.old.regions }
     requires room { length (region_value region.now).listings ≤ composition.old.free }

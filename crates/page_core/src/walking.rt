@@ -46,7 +46,7 @@ fn next_of(bytes: &[u8], kind: u8) -> Option<Next<'_, Segment<'_>>>
         → MatchOption result (filter (is_content_of kind) set ≡ [])
         (λ next. IsNextOf (is_content_of kind) set (contents next.segment) next.rest.now) }
     ensures shorter { IfSome result (λ next. length next.rest.now < length bytes.now) }
-    ensures right { IfSome result (λ next. IsValidValue (contents next.segment)) }
+    ensures valid { IfSome result (λ next. IsValidValue (contents next.segment)) }
 {
     let front = next_front(bytes, kind)?;
     match read_one(&front.frame) {
@@ -64,7 +64,7 @@ pub(crate) fn next_region(bytes: &[u8]) -> Option<Next<'_, RegionSeg<'_>>>
         → MatchOption result (filter is_region set ≡ [])
         (λ next. IsNextOf is_region set (of_region (region_value next.segment)) next.rest.now) }
     ensures shorter { IfSome result (λ next. length next.rest.now < length bytes.now) }
-    ensures right { IfSome result (λ next. IsValidHead (region_value next.segment).head) }
+    ensures valid { IfSome result (λ next. IsValidHead (region_value next.segment).head) }
 {
     let next = next_of(bytes, REGION_COMPOSITION)?;
     match next.segment {

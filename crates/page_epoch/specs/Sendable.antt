@@ -1,20 +1,16 @@
 -- Sets whose numbers name what a script has, and fit the fields of their segments.
-use Rattle.std.specs.Prelude.{◌≡◌, ℕ, ◌==◌, ◌<◌, ◌≤◌, ◌^◌, length, All, find, Option, Some, IsSome, slice_get}
+use Rattle.std.specs.Prelude.{◌≡◌, ℕ, ◌<◌, ◌≤◌, ◌^◌, length, All, Some, IsSome, slice_get}
 use Rattle.cue_records.specs.declared.limits.TheConstants.{MOST_COLOURS, MOST_CUES, MOST_REGIONS}
 use Rattle.cue_list.specs.declared.epoch.Epoch.{Epoch}
-use Rattle.cue_records.specs.declared.region.Region.{Region}
 use Rattle.cue_list.specs.declared.script.Script.{Script}
+use Rattle.cue_list.specs.Past.{region_with}
 use Rattle.page_epoch.specs.declared.planned_set.PlannedSet.{PlannedSet}
 use Rattle.page_epoch.specs.declared.planned_set.SentClut.{SentClut}
 use Rattle.page_epoch.specs.declared.planned_set.SentRegion.{SentRegion}
 
--- the region of that number
-abbrev pub find_region : Epoch → ℕ → Option Region
-find_region epoch id = find (λ (region : Region). region.id == id) epoch.regions
-
 -- the epoch has a region of that number
 abbrev pub HasRegion : Epoch → ℕ → Type 0
-HasRegion epoch id = IsSome (find_region epoch id)
+HasRegion epoch id = IsSome (region_with id epoch.regions)
 
 -- the epoch has a cue at that place
 abbrev pub HasCue : Epoch → ℕ → Type 0

@@ -34,14 +34,15 @@ use Rattle.page_pair.specs.declared.pair_fault.PairFault.TheVariants as pair
 
 -- ---- pages
 
--- the pages of a receiver of the first language, and of one of the second
+-- the pages of a receiver of the first language: its composition page, and the ancillary page that both use
 abbrev pub first_pages : TwoPages → Pages
 first_pages pages = record { composition = pages.first; ancillary = pages.shared }
 
+-- the pages of a receiver of the second language: its composition page, and the ancillary page that both use
 abbrev pub second_pages : TwoPages → Pages
 second_pages pages = record { composition = pages.second; ancillary = pages.shared }
 
--- how the sets of the first script's plan are sent, and those of the second's
+-- how the sets of the first script's plan are sent
 abbrev pub first_sent : Pairing → Script → List PlannedSet → Timetable → SentPlan
 first_sent pairing script sets table = record {
   profile = pairing.profile;
@@ -52,6 +53,7 @@ first_sent pairing script sets table = record {
   table = table;
 }
 
+-- how the sets of the second script's plan are sent
 abbrev pub second_sent : Pairing → Script → List PlannedSet → Timetable → SentPlan
 second_sent pairing script sets table = record {
   profile = pairing.profile;

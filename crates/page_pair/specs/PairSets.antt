@@ -23,14 +23,16 @@ pub record Paged : Type 0 where
   pub page : ℕ
   pub value : SegmentValue
 
+-- a segment that is sent on the page of that number
 abbrev pub on : ℕ → SegmentValue → Paged
 on number segment = record { page = number; value = segment }
 
--- its bytes; and how many they are, by its kind: an object whose blocks are too long to be written is counted all the
--- same
+-- the bytes of such a segment, with its head
 abbrev pub paged_bytes : Paged → List ℕ
 paged_bytes one = spelled one.page one.value
 
+-- how many bytes such a segment has, by its kind: an object whose blocks are too long to be written is counted all
+-- the same
 abbrev pub paged_length : Paged → ℕ
 paged_length one = size_of one.value
 
@@ -47,6 +49,7 @@ pub record CueObject : Type 0 where
   pub top : List ℕ
   pub bottom : List ℕ
 
+-- two flags are both set, or both are not
 abbrev pub is_same_flag : Bool → Bool → Bool
 is_same_flag true other = other
 is_same_flag false other = not other
@@ -112,15 +115,17 @@ object_of names object = object_segment (names object.cue) object.see_through ob
 
 -- ---- objects in their order
 
--- the objects before the first one of a cue, those behind it, and it
+-- the objects before the first one of a cue; all of them, where none is of the cue
 abbrev pub before_cue : ℕ → List CueObject → List CueObject
 before_cue cue [] = []
 before_cue cue (one ∷ more) = if one.cue == cue then [] else one ∷ before_cue cue more
 
+-- the objects behind the first one of a cue; nothing, where none is of the cue
 abbrev pub behind_cue : ℕ → List CueObject → List CueObject
 behind_cue cue [] = []
 behind_cue cue (one ∷ more) = if one.cue == cue then more else behind_cue cue more
 
+-- the first object of a cue, alone in a list; nothing, where none is of the cue
 abbrev pub at_cue : ℕ → List CueObject → List CueObject
 at_cue cue [] = []
 at_cue cue (one ∷ more) = if one.cue == cue then one ∷ [] else at_cue cue more
@@ -140,13 +145,15 @@ in_order pages first second (pair ∷ pairs) one two =
 
 -- ---- the set
 
--- the cues whose objects two languages share, and the numbers that each of them gives its objects
+-- the cues of the one and of the other language whose objects are shared, in order
 abbrev pub pairs_of : Side → Side → List (ℕ × ℕ)
 pairs_of one two = shared_objects one.objects two.objects
 
+-- the numbers (object_id) that the first language gives the objects of its cues
 abbrev pub first_names : Side → Side → Names
 first_names one two = names_of (map (λ (pair : ℕ × ℕ). pair.0) (pairs_of one two))
 
+-- the numbers (object_id) that the second language gives the objects of its cues
 abbrev pub second_names : Side → Side → Names
 second_names one two = names_of (map (λ (pair : ℕ × ℕ). pair.1) (pairs_of one two))
 
@@ -154,10 +161,11 @@ second_names one two = names_of (map (λ (pair : ℕ × ℕ). pair.1) (pairs_of 
 abbrev pub has_clut : List SegmentValue → SegmentValue → Bool
 has_clut cluts clut = list_any (is_same_segment clut) cluts
 
--- the CLUTs of a language that the other has not, and those that it has
+-- the CLUTs of a language that the other has not
 abbrev pub own_cluts : Side → Side → List SegmentValue
 own_cluts one two = filter (λ clut. not (has_clut (cluts_of two) clut)) (cluts_of one)
 
+-- the CLUTs of a language that the other has too
 abbrev pub shared_cluts : Side → Side → List SegmentValue
 shared_cluts one two = filter (has_clut (cluts_of two)) (cluts_of one)
 

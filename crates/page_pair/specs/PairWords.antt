@@ -15,6 +15,7 @@ abbrev pub are_three : TwoPages → Bool
 are_three pages =
     not (pages.first == pages.second) && (not (pages.first == pages.shared) && not (pages.second == pages.shared))
 
+-- what `pair` is asked for, where its three pages differ
 abbrev pub if_three : Pairing → Option Pairing
 if_three pairing = if are_three pairing.pages then Some pairing else None
 

@@ -33,7 +33,7 @@ pub fn pair_inputs(words: &Words) -> InputPlaces
 /// words: the three pages differ.
 pub(crate) fn pairing_of(words: &Words) -> Option<Pairing>
     ensures words { result ≡ pair_words words.now }
-    ensures right { IfSome result IsPairing }
+    ensures pairing { IfSome result IsPairing }
 {
     if !are_plain(words) || words.count() != 9 || !has_word(words, 0, "pair") {
         return None;

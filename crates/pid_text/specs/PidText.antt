@@ -16,6 +16,7 @@ abbrev pub AreRising : List ℕ → Type 0
 AreRising [] = Unit {0}
 AreRising (page ∷ pages) = AllByRecursion (λ later. page < later) pages × AreRising pages
 
+-- the page is among these
 abbrev pub is_in : ℕ → List ℕ → Bool
 is_in page pages = list_any (λ other. other == page) pages
 
@@ -41,14 +42,16 @@ pub record AreTold (units : List SubtitleUnit) (pages : List ℕ) (more : Bool) 
 abbrev pub counted : ℕ → ℕ
 counted count = min count (2 ^ 64 - 1)
 
--- the line of a PID: how many PES packets of subtitles it has, and the times of the first and the last
+-- the beginning of the line of a PID: how many PES packets of subtitles it has
 abbrev pub units_part : ℕ → ℕ → List ℕ
 units_part pid count = codes "pid" ++ then_number pid ++ codes " units" ++ then_number count
 
+-- the rest of the line of a PID: the presentation times of the first and the last of them, in ticks of 90 kHz
 abbrev pub times_part : ℕ → ℕ → List ℕ
 times_part first last =
     codes " first" ++ then_number first ++ codes " last" ++ then_number last ++ line_end
 
+-- the line of a PID: how many PES packets of subtitles it has, and the times of the first and the last
 abbrev pub pid_line : ℕ → ℕ → ℕ → ℕ → List ℕ
 pid_line pid count first last = units_part pid count ++ times_part first last
 
@@ -63,19 +66,22 @@ page_line page composed ancillary =
 abbrev pub more_line : List ℕ
 more_line = codes "more" ++ line_end
 
+-- that line, where there are more than are told, and else nothing
 abbrev pub more_where : Bool → List ℕ
 more_where more = if more then more_line else []
 
 -- ---- the text
 
--- the time of the first PES packet
+-- the presentation time of the first PES packet; 0 where there is none
 abbrev pub first_time : List SubtitleUnit → ℕ
 first_time [] = 0
 first_time (unit ∷ units) = unit.time
 
+-- the presentation time of the last PES packet; 0 where there is none
 abbrev pub last_time : List SubtitleUnit → ℕ
 last_time units = first_time (reverse units)
 
+-- the line of a page by the PES packets of subtitles of a PID
 abbrev pub page_text : List SubtitleUnit → ℕ → List ℕ
 page_text units page = page_line page (counted (compositions page units)) (counted (ancillaries page units))
 

@@ -32,6 +32,7 @@ head_in (broken fault) = None
 unfoldable pub heads_of : List ℕ → List Head
 heads_of field = filter_map head_in (frames_of field)
 
+-- a PES packet that was read, by its presentation time and the heads in its data field; a unit that is none has nothing
 abbrev pub read_as : Result (ℕ × List ℕ) PesFault → Option SubtitleUnit
 read_as (Ok pes) = Some (record { time = pes.0; heads = heads_of pes.1 })
 read_as (Err fault) = None
@@ -97,6 +98,7 @@ is_ancillary page head = head.page == page && (head.kind == CLUT_DEFINITION || h
 abbrev pub has_page : ℕ → List Head → Bool
 has_page page heads = list_any (is_of_page page) heads
 
+-- one of the segments is a page composition of the page
 abbrev pub has_composition : ℕ → List Head → Bool
 has_composition page heads = list_any (is_composition page) heads
 

@@ -11,6 +11,7 @@ pub record Maps : Type 0 where
   pub two_to_eight : List ℕ
   pub four_to_eight : List ℕ
 
+-- the map tables that hold before any is sent
 abbrev pub default_maps : Maps
 default_maps = record {
   two_to_four = 0x07 ∷ 0x8F ∷ [];

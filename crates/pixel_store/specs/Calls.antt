@@ -45,12 +45,14 @@ code_given x (Some (PaintString slot left row codes)) = unwrap_or (string_code l
 abbrev pub last_write : ℕ → ℕ → ℕ → List StoreCall → ℕ
 last_write slot x y past = code_given x (find (covers slot x y) past)
 
+-- the call placed a region
 abbrev pub is_place : StoreCall → Bool
 is_place (Place placed width height depth) = true
 is_place (Fill filled code) = false
 is_place (PaintRun painted left row count code) = false
 is_place (PaintString painted left row codes) = false
 
+-- the call placed a region in that slot
 abbrev pub is_place_of : ℕ → StoreCall → Bool
 is_place_of slot (Place placed width height depth) = placed == slot
 is_place_of slot (Fill filled code) = false

@@ -25,6 +25,7 @@ row_of region y = slice_range region.bytes (y * row_length region) (y * row_leng
 abbrev pub code_of : StoredRegion → ℕ → ℕ → ℕ
 code_of region x y = packed_code region.depth (row_of region y) x
 
+-- how many bytes of a store the region takes
 abbrev pub need_in : StoredRegion → ℕ
 need_in region = pixel_bytes region.width region.height region.depth
 
@@ -43,6 +44,7 @@ pub record Regions : Type 0 where
 abbrev pub IsPlaced : Regions → ℕ → Type 0
 IsPlaced store slot = slot < length store.regions
 
+-- the region of a slot, and one without pixels where none is placed there
 abbrev pub region_at : Regions → ℕ → StoredRegion
 region_at store slot = slice_index_or store.regions slot (blank 0 0 Two)
 

@@ -55,11 +55,12 @@ abbrev pub body_size : Table → ℕ
 body_size (pat_table id entries) = 4 * length entries
 body_size (pmt_table service pcr descriptors streams) = 4 + length descriptors + sum_by stream_size streams
 
--- table_id, and transport_stream_id or program_number
+-- table_id: 00 for a PAT, 02 for a PMT
 abbrev pub table_id : Table → ℕ
 table_id (pat_table id entries) = 0
 table_id (pmt_table service pcr descriptors streams) = 2
 
+-- transport_stream_id of a PAT, program_number of a PMT
 abbrev pub table_number : Table → ℕ
 table_number (pat_table id entries) = id
 table_number (pmt_table service pcr descriptors streams) = service

@@ -4,16 +4,18 @@ use Rattle.std.specs.Prelude.{ℕ, zero, suc, ◌+◌, ◌*◌, ◌%◌, ◌^◌
 use Rattle.std.specs.List.{list_all}
 use Rattle.stream_syntax.specs.Tests.{byte_at, word_at}
 
--- the number in the low 12 bits of two bytes, and that in the low 13 bits
+-- the number in the low 12 bits of the two bytes at a place
 abbrev pub twelve_at : ℕ → List ℕ → ℕ
 twelve_at place bytes = word_at place bytes % 2 ^ 12
 
+-- the number in the low 13 bits of the two bytes at a place
 abbrev pub thirteen_at : ℕ → List ℕ → ℕ
 thirteen_at place bytes = word_at place bytes % 2 ^ 13
 
 -- ---- entries
 
--- an entry of a PAT: the number of a service (program_number), and the PID of its PMT (program_map_PID)
+-- an entry of a PAT: the number of a service (program_number), and the PID of its PMT (program_map_PID); for number 0
+-- it is that of the network (network_PID)
 pub record PatEntry : Type 0 where
   pub number : ℕ
   pub pid : ℕ
@@ -35,6 +37,7 @@ pub record Descriptor : Type 0 where
   pub tag : ℕ
   pub content : List ℕ
 
+-- the descriptors in bytes, one after another, at most so many, up to one that is cut
 abbrev pub descriptors_within : ℕ → List ℕ → List Descriptor
 descriptors_within zero bytes = []
 descriptors_within (suc most) bytes =
@@ -46,6 +49,7 @@ descriptors_within (suc most) bytes =
 unfoldable pub descriptors_of : List ℕ → List Descriptor
 descriptors_of bytes = descriptors_within (length bytes) bytes
 
+-- how many bytes a descriptor has, its tag and its length with it
 abbrev pub descriptor_size : Descriptor → ℕ
 descriptor_size descriptor = 2 + length descriptor.content
 
@@ -61,13 +65,15 @@ pub record Stream : Type 0 where
   pub pid : ℕ
   pub descriptors : List ℕ
 
--- the bytes of descriptors of the stream that begins bytes (ES_info_length), and all bytes of that stream
+-- the bytes of descriptors of the stream that begins bytes (ES_info_length)
 abbrev pub first_descriptors : List ℕ → List ℕ
 first_descriptors bytes = take (twelve_at 3 bytes) (drop 5 bytes)
 
+-- how many bytes the stream that begins bytes has by its ES_info_length
 abbrev pub first_size : List ℕ → ℕ
 first_size bytes = 5 + twelve_at 3 bytes
 
+-- the streams in bytes, one after another, at most so many, up to one that is cut
 abbrev pub streams_within : ℕ → List ℕ → List Stream
 streams_within zero bytes = []
 streams_within (suc most) bytes =
@@ -79,6 +85,7 @@ streams_within (suc most) bytes =
 unfoldable pub streams_of : List ℕ → List Stream
 streams_of bytes = streams_within (length bytes) bytes
 
+-- how many bytes a stream has, its descriptors with it
 abbrev pub stream_size : Stream → ℕ
 stream_size stream = 5 + length stream.descriptors
 

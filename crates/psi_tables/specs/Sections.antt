@@ -28,10 +28,12 @@ body_of bytes = take (section_size bytes - 12) (drop 8 bytes)
 
 -- ---- the body
 
--- behind the PCR PID, and the descriptors of the service that the length before them counts (program_info_length)
+-- the bytes of descriptors of the service in the body of a PMT, behind the PCR PID and the length that counts them
+-- (program_info_length)
 abbrev pub head_descriptors : List ℕ → List ℕ
 head_descriptors body = take (twelve_at 2 body) (drop 4 body)
 
+-- the bytes of streams in the body of a PMT, behind the descriptors of the service
 abbrev pub streams_in : List ℕ → List ℕ
 streams_in body = drop (4 + twelve_at 2 body) body
 
@@ -78,6 +80,7 @@ section_value bytes =
     if byte_at 0 bytes == 0 then Pat (word_at 3 bytes) (body_of bytes)
     else Pmt (word_at 3 bytes) (streams_in (body_of bytes))
 
+-- what a section says, where it has no fault
 abbrev pub value_by : List ℕ → Option SectionFault → Option SectionValue
 value_by bytes None = Some (section_value bytes)
 value_by bytes (Some fault) = None

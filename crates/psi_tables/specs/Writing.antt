@@ -15,6 +15,7 @@ head_bytes table id size = table ∷ (big_bytes 2 (0xB000 + 9 + size) ++ (big_by
 abbrev pub before_crc : ℕ → ℕ → List ℕ → List ℕ
 before_crc table id body = head_bytes table id (length body) ++ body
 
+-- the section with that table id, that id (transport_stream_id or program_number) and that body, and its CRC
 abbrev pub written_section : ℕ → ℕ → List ℕ → List ℕ
 written_section table id body = before_crc table id body ++ big_bytes 4 (crc_of (before_crc table id body))
 

@@ -80,7 +80,7 @@ pub record IsNext (ended : Bool) (fed : List (List ℕ)) (given : List (Delivery
   pub stands : Stands ended fed given asking
   pub all : sets_received (reception asking) ended fed ≡ given ++ next ∷ rest
 
--- a set or loss comes next, where anything was fed
+-- whatever was fed and taken so far, a set or loss comes next
 abbrev pub HasNext : Asking → Type 0
 HasNext asking = (ended : Bool) (packets : List (List ℕ)) (given : List (Delivery (List ℕ)))
     → Stands ended packets given asking

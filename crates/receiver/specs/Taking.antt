@@ -4,7 +4,7 @@ use Rattle.decoder_model.specs.Received.{sets_received}
 use Rattle.decoder_model.specs.Sets.{Delivery}
 use Rattle.receiver.specs.Receiving.{IsNext, Receiving, Stands, reception}
 
--- a set or loss comes next, where anything was fed
+-- whatever was fed and taken so far, a set or loss comes next
 abbrev pub HasNext : Receiving → Type 0
 HasNext receiving = (ended : Bool) (packets : List (List ℕ)) (given : List (Delivery (List ℕ)))
     → Stands ended packets given receiving

@@ -59,6 +59,7 @@ pub record IsRefusedAt (has_font : Bool) (first_before first_now second_before s
   pub read : WasRead text_limit first_before first_now text
   pub refused : IsScriptFault text font fault
 
+-- the first source is refused as a script in the font for this fault; want of memory is no refusal
 abbrev pub IsScriptRefused : Bool → Supplied → Supplied → Supplied → Supplied → ScriptFault → Type 0
 IsScriptRefused has_font first_before first_now second_before second_now script.Memory = ⊥
 IsScriptRefused has_font first_before first_now second_before second_now (script.Refused row kind) =

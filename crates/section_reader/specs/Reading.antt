@@ -3,6 +3,7 @@
 use Rattle.std.specs.Prelude.{◌≡◌, ℕ, List, [], ◌∷◌, ◌++◌, Option}
 use Rattle.section_reader.specs.Sections.{hand_behind, last_counter, sections_of}
 
+-- the PID whose sections are read, and what is kept of its packets
 pub record SectionReading : Type 0 where
   pub pid : ℕ
   -- the counter of the last payload packet

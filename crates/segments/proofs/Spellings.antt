@@ -197,7 +197,7 @@ written_segment page value writable =
       is_body = written_is_body value writable.shown;
       fits = writable.fits;
       laid = writes_has (written_fields page value) (segment_bytes page value) made;
-      right = writable.right;
+      valid = writable.valid;
     } in
     subst (λ (bytes : List ℕ). IsSegment bytes value) (sym (spelled_as page value writable.fits)) whole
 

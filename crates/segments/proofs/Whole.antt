@@ -27,7 +27,7 @@ pub record Laid (kind : ℕ) (body : List ℕ) (value : SegmentValue) : Type 0 w
   pub is_body : IsBody value kind fields
   pub has : HasFields fields (bits_of body)
   pub fits : FitsFields fields
-  pub right : IsValid value
+  pub valid : IsValid value
 
 differ : false ≡ true → ⊥
 differ e = cc
@@ -40,7 +40,7 @@ page_body : (body : List ℕ) → AreBytes body → first_fault (page_tests body
 page_body body fits none =
     let asks = page_asks body none in
     let laid = page_laid body fits asks.0 asks.1 in
-    record { fields = page_fields (page_in body); is_body = (refl, refl); has = laid.0; fits = laid.1; right = tt }
+    record { fields = page_fields (page_in body); is_body = (refl, refl); has = laid.0; fits = laid.1; valid = tt }
 
 region_body : (body : List ℕ) → AreBytes body → first_fault (region_tests body) ≡ None
     → Laid 17 body (of_region (region_in body))
@@ -52,7 +52,7 @@ region_body body fits none =
       is_body = (refl, get_or body 6 0 / 32, refl);
       has = laid.0;
       fits = laid.1;
-      right = (asks.1, asks.2);
+      valid = (asks.1, asks.2);
     }
 
 clut_body : (body : List ℕ) → AreBytes body → first_fault (clut_tests body) ≡ None
@@ -65,7 +65,7 @@ clut_body body fits none =
       is_body = (refl, laid.0, laid.1, refl);
       has = laid.2;
       fits = laid.3;
-      right = tt;
+      valid = tt;
     }
 
 object_body : (body : List ℕ) → AreBytes body → first_fault (object_tests body) ≡ None
@@ -78,7 +78,7 @@ object_body body fits none blocks =
       is_body = (refl, asks.0, refl);
       has = laid.0;
       fits = laid.1;
-      right = blocks;
+      valid = blocks;
     }
 
 window_right : (body : List ℕ) → is_window body ≡ true
@@ -105,7 +105,7 @@ display_body body fits none =
       is_body = (refl, further_in body, refl);
       has = laid.0;
       fits = laid.1;
-      right = (omega arith, omega arith, display_right body (has_window body) refl asks.2);
+      valid = (omega arith, omega arith, display_right body (has_window body) refl asks.2);
     }
 
 end_body : (body : List ℕ) → Laid 128 body end_of_set
@@ -115,7 +115,7 @@ end_body body =
       is_body = (refl, length body, refl);
       has = free_laid body;
       fits = free_fits (length body);
-      right = tt;
+      valid = tt;
     }
 
 passed_body : (kind : ℕ) (body : List ℕ) → IsPassedOver kind → Laid kind body passed_over
@@ -125,7 +125,7 @@ passed_body kind body is =
       is_body = (is, length body, refl);
       has = free_laid body;
       fits = free_fits (length body);
-      right = tt;
+      valid = tt;
     }
 
 -- the value of a body of another type
@@ -195,10 +195,10 @@ region_reads : (compatibility : ℕ) (value : Region) (body : List ℕ) → AreB
     → FitsFields (region_fields compatibility value)
     → HasFields (region_fields compatibility value) (bits_of body) → (1 ≤ value.head.width)
     × (1 ≤ value.head.height) → Reads 17 body (of_region value)
-region_reads compatibility value body fits fit has right =
+region_reads compatibility value body fits fit has valid =
     let again = region_again compatibility value body fits fit has in
-    let width : 1 ≤ word_at 2 body = subst (λ (r : Region). 1 ≤ r.head.width) (sym again.0) right.0 in
-    let height : 1 ≤ word_at 4 body = subst (λ (r : Region). 1 ≤ r.head.height) (sym again.0) right.1 in (
+    let width : 1 ≤ word_at 2 body = subst (λ (r : Region). 1 ≤ r.head.width) (sym again.0) valid.0 in
+    let height : 1 ≤ word_at 4 body = subst (λ (r : Region). 1 ≤ r.head.height) (sym again.0) valid.1 in (
       (ap of_region (sym again.0), region_passes body (again.1, width, height, again.2, again.3, again.4)),
       λ e. absurd
           (omega arith),
@@ -217,11 +217,11 @@ clut_reads value coded body fits are fit has =
 object_reads : (padded : Bool) (value : Object) (body : List ℕ) → AreBytes body
     → FitsFields (object_fields padded value) → HasFields (object_fields padded value) (bits_of body)
     → AreBlocks value.top value.bottom → Reads 19 body (of_object value)
-object_reads padded value body fits fit has right =
+object_reads padded value body fits fit has valid =
     let again = object_again padded value body fits fit has in (
       (ap of_object (sym again.0), object_passes body padded (again.1, again.2, again.3, again.4)),
       λ e. subst
-          (λ (o : Object). AreBlocks o.top o.bottom) (sym again.0) right,
+          (λ (o : Object). AreBlocks o.top o.bottom) (sym again.0) valid,
     )
 
 is_window_there : (body : List ℕ) → (word_at 5 body ≤ word_at 7 body) × (word_at 7 body < word_at 1 body + 1)
@@ -239,21 +239,21 @@ windowed version width height window = record { version = version; width = width
 some_window : (body : List ℕ) (version width height : ℕ) (window : Window) → has_window body ≡ true
     → display_in body ≡ windowed version width height (Some window) → IsWindowOf width height (Some window)
     → is_window body ≡ true
-some_window body version width height window on same right =
+some_window body version width height window on same valid =
     let shown : display_in body
     ≡ windowed (byte_at 0 body / 16) (word_at 1 body + 1) (word_at 3 body + 1) (Some (window_in body)) = rw on
     refl in
     let both : windowed (byte_at 0 body / 16) (word_at 1 body + 1) (word_at 3 body + 1) (Some (window_in body))
     ≡ windowed version width height (Some window) = sym shown ∙ same in
-    is_window_there body (subst (λ (d : Display). IsWindowOf d.width d.height d.window) (sym both) right)
+    is_window_there body (subst (λ (d : Display). IsWindowOf d.width d.height d.window) (sym both) valid)
 
 display_reads : (further version width height : ℕ) (window : Option Window) (body : List ℕ) → AreBytes body
     → FitsFields (display_fields further (windowed version width height window))
     → HasFields (display_fields further (windowed version width height window)) (bits_of body)
     → (1 ≤ width) × (1 ≤ height) × IsWindowOf width height window
     → Reads 20 body (of_display (windowed version width height window))
-display_reads further version width height None body fits fit has right =
-    let again = plain_again further version width height body fits right.0 right.1 fit has in (
+display_reads further version width height None body fits fit has valid =
+    let again = plain_again further version width height body fits valid.0 valid.1 fit has in (
       (
         ap of_display (sym again.0),
         display_passes body again.1 (λ on. absurd (differ (sym again.2 ∙ on)))
@@ -261,12 +261,12 @@ display_reads further version width height None body fits fit has right =
       ),
       λ e. absurd (omega arith),
     )
-display_reads further version width height (Some window) body fits fit has right =
-    let again = window_again further version width height window body fits right.0 right.1 fit has in (
+display_reads further version width height (Some window) body fits fit has valid =
+    let again = window_again further version width height window body fits valid.0 valid.1 fit has in (
       (
         ap of_display (sym again.0),
         display_passes body (omega (arith, again.1)) (λ on. again.1)
-            (λ on. some_window body version width height window again.2 again.0 right.2),
+            (λ on. some_window body version width height window again.2 again.0 valid.2),
       ),
       λ e. absurd (omega arith),
     )
@@ -274,28 +274,28 @@ display_reads further version width height (Some window) body fits fit has right
 pub body_again : (value : SegmentValue) (kind : ℕ) (body : List ℕ) (fields : List Field) → AreBytes body
     → IsBody value kind fields → FitsFields fields → HasFields fields (bits_of body) → IsValid value
     → Reads kind body value
-body_again (of_page value) kind body fields fits (kind-is, is) fit has right =
+body_again (of_page value) kind body fields fits (kind-is, is) fit has valid =
     at_kind kind 16 body (of_page value) kind-is
     (page_reads value body fits (subst FitsFields is fit)
     (subst (λ (fs : List Field). HasFields fs (bits_of body)) is has))
-body_again (of_region value) kind body fields fits (kind-is, compatibility, is) fit has right =
+body_again (of_region value) kind body fields fits (kind-is, compatibility, is) fit has valid =
     at_kind kind 17 body (of_region value) kind-is
     (region_reads compatibility value body fits (subst FitsFields is fit)
-    (subst (λ (fs : List Field). HasFields fs (bits_of body)) is has) right)
-body_again (of_clut value) kind body fields fits (kind-is, coded, are, is) fit has right =
+    (subst (λ (fs : List Field). HasFields fs (bits_of body)) is has) valid)
+body_again (of_clut value) kind body fields fits (kind-is, coded, are, is) fit has valid =
     at_kind kind 18 body (of_clut value) kind-is
     (clut_reads value coded body fits are (subst FitsFields is fit)
     (subst (λ (fs : List Field). HasFields fs (bits_of body)) is has))
-body_again (of_object value) kind body fields fits (kind-is, padded, is) fit has right =
+body_again (of_object value) kind body fields fits (kind-is, padded, is) fit has valid =
     at_kind kind 19 body (of_object value) kind-is
     (object_reads padded value body fits (subst FitsFields is fit)
-    (subst (λ (fs : List Field). HasFields fs (bits_of body)) is has) right)
-body_again (of_display value) kind body fields fits (kind-is, further, is) fit has right =
+    (subst (λ (fs : List Field). HasFields fs (bits_of body)) is has) valid)
+body_again (of_display value) kind body fields fits (kind-is, further, is) fit has valid =
     at_kind kind 20 body (of_display value) kind-is
     (display_reads further value.version value.width value.height value.window body fits (subst FitsFields is fit)
-    (subst (λ (fs : List Field). HasFields fs (bits_of body)) is has) right)
-body_again end_of_set kind body fields fits (kind-is, further, is) fit has right =
+    (subst (λ (fs : List Field). HasFields fs (bits_of body)) is has) valid)
+body_again end_of_set kind body fields fits (kind-is, further, is) fit has valid =
     at_kind kind 128 body end_of_set kind-is ((refl, refl), λ e. absurd (omega arith))
-body_again passed_over kind body fields fits (other, further, is) fit has right =
+body_again passed_over kind body fields fits (other, further, is) fit has valid =
     let passed = passed_value kind body other.1 other.2 other.3 other.4 other.5 other.6 in
     ((sym passed.0, passed.1), λ e. absurd (other.4 e))

@@ -80,7 +80,7 @@ is_segment bytes value fits none laid =
       laid =
           subst (HasFields (segment_fields (byte_at 1 bytes) (word_at 2 bytes) laid.fields)) (sym parts)
           (has_append head laid.has);
-      right = laid.right;
+      valid = laid.valid;
     }
 
 -- ---- a segment is read
@@ -99,7 +99,7 @@ Again segment value = (byte_at 0 segment ≡ 15) × (6 ≤ length segment)
 cells_again : (segment : List ℕ) (value : SegmentValue) (kind page : ℕ) (body : List Field) → AreBytes segment
     → IsBody value kind body → FitsFields (segment_fields kind page body)
     → HasFields (segment_fields kind page body) (bits_of segment) → IsValid value → Again segment value
-cells_again (a ∷ b ∷ c ∷ d ∷ e ∷ f ∷ rest) value kind page body bytes is fits has right =
+cells_again (a ∷ b ∷ c ∷ d ∷ e ∷ f ∷ rest) value kind page body bytes is fits has valid =
     let first = take_byte 15 a _ _ (omega arith) (bytes 0) has in
     let second = take_byte kind b _ _ fits.1.0 (bytes 1) first.1 in
     let third = take_word page c d _ _ fits.1.1.0 (bytes 2) (bytes 3) second.1 in
@@ -107,18 +107,18 @@ cells_again (a ∷ b ∷ c ∷ d ∷ e ∷ f ∷ rest) value kind page body byte
     let size = byte_count_is body rest fourth.1 in
     let reads =
     body_again value kind rest body (AreBytes-drop 6 (a ∷ b ∷ c ∷ d ∷ e ∷ f ∷ rest) bytes) is
-    fits.1.1.1.1 fourth.1 right in
+    fits.1.1.1.1 fourth.1 valid in
     (first.0, omega arith, omega (arith, size, fourth.0), subst (λ (k : ℕ). Reads k rest value) (sym second.0) reads)
-cells_again [] value kind page body bytes is fits has right = absurd (omega (arith, fields_bytes _ [] has))
-cells_again (a ∷ []) value kind page body bytes is fits has right =
+cells_again [] value kind page body bytes is fits has valid = absurd (omega (arith, fields_bytes _ [] has))
+cells_again (a ∷ []) value kind page body bytes is fits has valid =
     absurd (omega (arith, fields_bytes _ (a ∷ []) has))
-cells_again (a ∷ b ∷ []) value kind page body bytes is fits has right =
+cells_again (a ∷ b ∷ []) value kind page body bytes is fits has valid =
     absurd (omega (arith, fields_bytes _ (a ∷ b ∷ []) has))
-cells_again (a ∷ b ∷ c ∷ []) value kind page body bytes is fits has right =
+cells_again (a ∷ b ∷ c ∷ []) value kind page body bytes is fits has valid =
     absurd (omega (arith, fields_bytes _ (a ∷ b ∷ c ∷ []) has))
-cells_again (a ∷ b ∷ c ∷ d ∷ []) value kind page body bytes is fits has right =
+cells_again (a ∷ b ∷ c ∷ d ∷ []) value kind page body bytes is fits has valid =
     absurd (omega (arith, fields_bytes _ (a ∷ b ∷ c ∷ d ∷ []) has))
-cells_again (a ∷ b ∷ c ∷ d ∷ e ∷ []) value kind page body bytes is fits has right =
+cells_again (a ∷ b ∷ c ∷ d ∷ e ∷ []) value kind page body bytes is fits has valid =
     absurd (omega (arith, fields_bytes _ (a ∷ b ∷ c ∷ d ∷ e ∷ []) has))
 
 pub segment_again : (bytes : List ℕ) (size : ℕ) (value : SegmentValue) → size ≤ length bytes
@@ -128,7 +128,7 @@ pub segment_again : (bytes : List ℕ) (size : ℕ) (value : SegmentValue) → s
 segment_again bytes size value le is =
     let again =
     cells_again (take size bytes) value is.kind is.page is.body (bytes_of_all (take size bytes) is.each) is.is_body
-    is.fits is.laid is.right in
+    is.fits is.laid is.valid in
     let long : length (take size bytes) ≡ size = length-take-le size bytes le in
     let six : 6 ≤ size = omega (arith, again.1, long) in
     let word : word_at 4 (take size bytes) ≡ word_at 4 bytes =

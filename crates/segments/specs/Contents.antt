@@ -25,25 +25,29 @@ abbrev pub by_six : {Item : Type 0} → (ℕ → ℕ → ℕ → ℕ → ℕ →
 by_six item (a ∷ b ∷ c ∷ d ∷ e ∷ f ∷ rest) = item a b c d e f ∷ by_six item rest
 by_six item rest = []
 
--- the entries of a page, six bytes each
+-- the entry of a page that six bytes stand for; the second of them is reserved
 abbrev pub page_entry : ℕ → ℕ → ℕ → ℕ → ℕ → ℕ → PageEntry
 page_entry region free x1 x0 y1 y0 = record { region = region; x = x1 * 256 + x0; y = y1 * 256 + y0 }
 
+-- the entries of a page, six bytes each
 abbrev pub page_entries : List ℕ → List PageEntry
 page_entries bytes = by_six page_entry bytes
 
+-- what a page composition that was read stands for
 abbrev pub page_value : PageSeg → Page
 page_value seg =
     record { time_out = seg.time_out; version = seg.version; state = seg.state; entries = page_entries seg.entries.now }
 
--- the listings of a region, six bytes each
+-- the listing of a region that six bytes stand for
 abbrev pub listing : ℕ → ℕ → ℕ → ℕ → ℕ → ℕ → Listing
 listing object1 object0 x1 x0 y1 y0 =
     record { object = object1 * 256 + object0; x = (x1 * 256 + x0) % 4096; y = (y1 * 256 + y0) % 4096 }
 
+-- the listings of a region, six bytes each
 abbrev pub region_listings : List ℕ → List Listing
 region_listings bytes = by_six listing bytes
 
+-- what a region composition that was read stands for
 abbrev pub region_value : RegionSeg → Region
 region_value seg =
     record {
@@ -62,11 +66,12 @@ region_value seg =
       listings = region_listings seg.listings.now;
     }
 
--- a colour in the full range, and one by its high bits, as they are shown
+-- the colour of an entry of a CLUT in the full range, as it is shown
 abbrev pub full_colour : List ℕ → Colour
 full_colour bytes =
     shown_of (record { y = byte_at 2 bytes; cr = byte_at 3 bytes; cb = byte_at 4 bytes; t = byte_at 5 bytes })
 
+-- the colour of an entry of a CLUT by its high bits, as it is shown
 abbrev pub short_colour : List ℕ → Colour
 short_colour bytes =
     shown_of (record {
@@ -99,6 +104,7 @@ first_entries (suc most) bytes =
 unfoldable pub clut_entries : List ℕ → List ClutEntry
 clut_entries bytes = first_entries (length bytes) bytes
 
+-- what a CLUT definition that was read stands for
 abbrev pub clut_value : ClutSeg → Clut
 clut_value seg = record { clut = seg.clut; version = seg.version; entries = clut_entries seg.entries.now }
 
@@ -106,9 +112,11 @@ clut_value seg = record { clut = seg.clut; version = seg.version; entries = clut
 abbrev pub items_left : ClutItems → List ClutEntry
 items_left items = clut_entries items.rest.now
 
+-- what a display definition that was read stands for
 abbrev pub display_value : DisplaySeg → Display
 display_value seg = record { version = seg.version; width = seg.width; height = seg.height; window = seg.window }
 
+-- what an object stands for that was read or is to be written
 abbrev pub object_value : ObjectSeg → Object
 object_value seg =
     record {

@@ -69,6 +69,7 @@ window_bytes None = []
 window_bytes (Some window) =
     word_bytes window.left ++ (word_bytes window.right ++ (word_bytes window.top ++ word_bytes window.bottom))
 
+-- the body of a display definition segment; a side is sent as one less than it is
 abbrev pub display_bytes : Display → List ℕ
 display_bytes display =
     (display.version * 16 + window_flag display.window * 8 + 7)

@@ -84,7 +84,7 @@ fn bad_method(kind: SegmentKind) -> SegmentFault
 /// Tests the blocks of an object, the top one first.
 pub(crate) fn check_blocks(top: &[u8], bottom: &[u8]) -> Result<(), SegmentFault>
     requires room { length top.now + length bottom.now < 65536 }
-    ensures right { OnOk result (AreBlocks top.now bottom.now) }
+    ensures blocks { OnOk result (AreBlocks top.now bottom.now) }
     ensures fault { IfErr result (IsBlocksFault top.now bottom.now) }
 {
     // A segment does not know its regions: strings that are too deep for one of these are found as

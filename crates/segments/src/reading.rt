@@ -104,7 +104,7 @@ impl<'a> Frame<'a> {
     pub fn tested_object(&self) -> Option<ObjectSeg<'a>>
         ensures value { IfSome result
             (λ object. object_at self.now.body.now ≡ Ok (object_value object)) }
-        ensures right { first_fault (object_tests self.now.body.now) ≡ None
+        ensures valid { first_fault (object_tests self.now.body.now) ≡ None
             → IsSomeAnd result (λ object. object_value object ≡ object_in self.now.body.now) }
         ensures fields { IfSome result
             (λ object. (length object.top.now ≤ 65535) × (length object.bottom.now ≤ 65535)) }

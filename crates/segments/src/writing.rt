@@ -147,7 +147,7 @@ fn frame_bytes(kind: u8, page: u16, size: u16) -> [u8; HEAD]
 #[tactic(auto, using(crate::proofs::Sizes::page_entries_size, crate::proofs::Sizes::listings_size, crate::proofs::Sizes::clut_entries_size, crate::proofs::Sizes::all_places_fit))]
 fn put_body(out: &mut Vec<u8>, segment: &SegmentOut<'_>)
     requires fits { FitsFields (written_body (value_of segment.now)) }
-    requires right { IsValid (value_of segment.now) }
+    requires valid { IsValid (value_of segment.now) }
     requires room { vec_len out.old + length (body_bytes (value_of segment.now))
         ≤ vec_capacity out.old }
     ensures { out.new.items ≡ out.old.items ++ body_bytes (value_of segment.now) }

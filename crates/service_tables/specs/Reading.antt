@@ -34,6 +34,7 @@ pub record HasReadMap (programme : ProgrammeReading) (packets : List (List ℕ))
 
 -- ---- all programmes
 
+-- what is kept of a stream: its first PAT, the programmes that it lists, and whether memory was wanting for them
 pub record ProgrammesRead : Type 0 where
   -- the sections of PID 0, and the PAT
   pub sections : SectionReading

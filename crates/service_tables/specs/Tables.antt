@@ -41,20 +41,23 @@ wanted_in wanted section = if is_wanted wanted section then Some section else No
 
 -- ---- programmes
 
--- the entries of a PAT, and the streams of a PMT
+-- the entries of a PAT; none of a PMT, or where there is no section
 abbrev pub entries_by : Option SectionValue → List PatEntry
 entries_by None = []
 entries_by (Some (Pat stream entries)) = entries_of entries
 entries_by (Some (Pmt number streams)) = []
 
+-- the entries that the bytes of a section list, where it is a valid one of a PAT; else none
 abbrev pub entries_in : List ℕ → List PatEntry
 entries_in section = entries_by (valid_section section)
 
+-- the streams of a PMT; none of a PAT, or where there is no section
 abbrev pub streams_by : Option SectionValue → List Stream
 streams_by None = []
 streams_by (Some (Pat stream entries)) = []
 streams_by (Some (Pmt number streams)) = streams_of streams
 
+-- the streams that the bytes of a section list, where it is a valid one of a PMT; else none
 abbrev pub streams_in : List ℕ → List Stream
 streams_in section = streams_by (valid_section section)
 

@@ -20,17 +20,19 @@ abbrev pub letters_part : List ℕ → List ℕ
 letters_part language =
     told_letter (byte_at 0 language) ∷ told_letter (byte_at 1 language) ∷ told_letter (byte_at 2 language) ∷ []
 
--- the line of a service
+-- the beginning of the line of a service: its programme's number, its PID, and the letters of its language
 abbrev pub stream_part : SubtitleService → List ℕ
 stream_part service =
     codes "service" ++ then_number service.number ++ codes " pid" ++ then_number service.pid ++ codes " "
     ++ letters_part service.language
 
+-- the rest of the line of a service: its subtitling_type, its composition page and its ancillary page
 abbrev pub page_part : SubtitleService → List ℕ
 page_part service =
     codes " type" ++ then_number service.kind ++ codes " page" ++ then_number service.page ++ codes " ancillary"
     ++ then_number service.ancillary ++ line_end
 
+-- the line of a service
 abbrev pub service_line : SubtitleService → List ℕ
 service_line service = stream_part service ++ page_part service
 

@@ -92,7 +92,7 @@ pub gone_back : (pictures : List Picture) (now new : KeptBlocks) (before : Block
     → IsGrownFrom pictures now before → new.slots.items ≡ take before.pictures now.slots.items
     → new.coded.items ≡ take before.blocks now.coded.items → AreBlocksOf pictures new
 gone_back pictures now new before can slots coded = record {
-  right = subst (AreCoded pictures) (sym same) can.blocks.right;
+  coded = subst (AreCoded pictures) (sym same) can.blocks.coded;
   each = each;
   led =
       subst (λ (ss : List Slots). AreLedTo ss new.coded.items) (sym slots)

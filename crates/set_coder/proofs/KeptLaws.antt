@@ -11,7 +11,7 @@ use Rattle.sub_base.specs.declared.depth.Depth.{Depth}
 use Rattle.cue_list.specs.declared.epoch.Cue.{Cue}
 use Rattle.cue_list.specs.declared.epoch.Epoch.{Epoch}
 use Rattle.cue_records.specs.declared.region.Region.{Region}
-use Rattle.page_epoch.specs.Sendable.{find_region}
+use Rattle.cue_list.specs.Past.{region_with}
 use Rattle.set_coder.specs.declared.coded_picture.CodedPicture.{CodedPicture}
 use Rattle.set_coder.specs.KeptBlocks.{IsCoded, FitsLargestBuffer, IsOf, IsPictureKept, IsCueKept}
 use Rattle.set_coder.specs.Private.Keeping.{StaysInFront}
@@ -83,7 +83,7 @@ front_stays kept more front = λ number region any.
 
 -- the picture of a cue is kept for the region that is found
 pub cue_kept : (pictures : List Picture) (coded : List CodedPicture) (epoch : Epoch) (cue : Cue) (region : Region)
-    → find_region epoch cue.region ≡ Some region → IsPictureKept pictures coded cue.picture region.depth
+    → region_with cue.region epoch.regions ≡ Some region → IsPictureKept pictures coded cue.picture region.depth
     → IsCueKept pictures coded epoch cue
 cue_kept pictures coded epoch cue region found kept = λ other is.
     let same : region ≡ other = cc in

@@ -154,7 +154,7 @@ object_sized pictures epoch place size picture depth top bottom p d blocks s =
 pub record Objects (pictures : List Picture) (epoch : Epoch) (page : ℕ) (cues old now : List ℕ)
     (i : ℕ) : Type 0 where
   pub done : List SegmentValue
-  pub right : All (IsWritable page) done
+  pub writable : All (IsWritable page) done
   pub bytes : now ≡ old ++ flat_map (spelled page) done
   pub drawn : (rest : List SegmentValue) → AreObjectsOf pictures epoch (drop i cues) rest
       → AreObjectsOf pictures epoch cues (done ++ rest)
@@ -162,7 +162,12 @@ pub record Objects (pictures : List Picture) (epoch : Epoch) (page : ℕ) (cues 
 pub objects_none : (pictures : List Picture) (epoch : Epoch) (page : ℕ) (cues old : List ℕ)
     → Objects pictures epoch page cues old old 0
 objects_none pictures epoch page cues old =
-    record { done = []; right = λ k d h. absurd (omega arith); bytes = sym (append-nil old); drawn = λ rest are. are }
+    record {
+      done = [];
+      writable = λ k d h. absurd (omega arith);
+      bytes = sym (append-nil old);
+      drawn = λ rest are. are;
+    }
 
 -- there is room for the next object
 pub object_room : (pictures : List Picture) (epoch : Epoch) (cues : List ℕ) (i : ℕ) → i < length cues
@@ -182,8 +187,8 @@ pub objects_more : (pictures : List Picture) (epoch : Epoch) (page : ℕ) (cues 
     × (new ≡ now ++ spelled page object) → Objects pictures epoch page cues old new (i + 1)
 objects_more pictures epoch page cues old now new i h o one = record {
   done = o.done ++ one.0 ∷ [];
-  right =
-      All-append (IsWritable page) o.done (one.0 ∷ []) o.right
+  writable =
+      All-append (IsWritable page) o.done (one.0 ∷ []) o.writable
       (All-cons (IsWritable page) one.0 [] one.2 (λ k d l. absurd (omega arith)));
   bytes =
       one.3 ∙ ap (λ (xs : List ℕ). xs ++ spelled page one.0) o.bytes
@@ -208,7 +213,7 @@ objects_drawn pictures epoch page cues old now i h o = (
       (o.drawn []
       (subst (λ (places : List ℕ). AreObjectsOf pictures epoch places []) (sym (drop_all i cues h))
       tt)),
-  o.right,
+  o.writable,
   o.bytes,
 )
 

@@ -60,9 +60,9 @@ kind_small value = elim value as (λ v. segment_kind v < 256) [
 -- a segment whose numbers fit, and whose body is short enough
 pub writable : (page : ℕ) (value : SegmentValue) → page < 2 ^ 16 → FitsFields (written_body value)
     → length (body_bytes value) < 65536 → IsValid value → HasShownColours value → IsWritable page value
-writable page value fits_page body short right shown =
+writable page value fits_page body short valid shown =
     let size : byte_count (written_body value) < 2 ^ 16 = omega (arith, size_is value body, short) in
-    record { fits = (omega arith, (kind_small value, (fits_page, (size, body)))); right = right; shown = shown }
+    record { fits = (omega arith, (kind_small value, (fits_page, (size, body)))); valid = valid; shown = shown }
 
 pub spelled_length : (page : ℕ) (value : SegmentValue) → IsWritable page value
     → length (spelled page value) ≡ 6 + length (body_bytes value)
@@ -360,14 +360,14 @@ one_display script page fits_page sound =
     (written_body
     (of_display (record { version = 0; width = script.width; height = script.height; window = None }))) =
     (omega arith, (omega arith, (tt, (omega (arith, n.1), (omega (arith, n.3), tt))))) in
-    let right : IsValid
+    let valid : IsValid
     (of_display
     (record { version = 0; width = script.width; height = script.height; window = None })) = (n.0, n.2, tt) in
     All-cons (IsWritable page)
     (of_display (record { version = 0; width = script.width; height = script.height; window = None })) []
     (writable page
     (of_display (record { version = 0; width = script.width; height = script.height; window = None })) fits_page
-    fits (omega arith) right tt) (λ k d h. absurd (omega arith))
+    fits (omega arith) valid tt) (λ k d h. absurd (omega arith))
 
 display_writable : (script : Script) (page : ℕ) (state : State) → page < 2 ^ 16
     → ∥ IsSoundScript script.origin script.width script.height script.refresh script.epochs script.pictures ∥₁

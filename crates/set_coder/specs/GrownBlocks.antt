@@ -9,7 +9,7 @@ use Rattle.set_coder.specs.KeptBlocks.{AreCoded, AreLedTo, FitsLargestBuffer}
 -- blocks of these pictures are kept: each is right for the picture of its number, each picture has its slots, these
 -- lead to what is kept of it, and no buffer is too small for what is kept
 pub record AreBlocksOf (pictures : List Picture) (kept : KeptBlocks) : Type 0 where
-  pub right : AreCoded pictures kept.coded.items
+  pub coded : AreCoded pictures kept.coded.items
   pub each : length kept.slots.items ≡ length pictures
   pub led : AreLedTo kept.slots.items kept.coded.items
   pub small : All FitsLargestBuffer kept.coded.items

@@ -10,7 +10,7 @@ use Rattle.cue_list.specs.declared.epoch.Cue.{Cue}
 use Rattle.cue_list.specs.declared.epoch.Epoch.{Epoch}
 use Rattle.cue_records.specs.declared.region.Region.{Region}
 use Rattle.cue_list.specs.declared.script.Script.{Script}
-use Rattle.page_epoch.specs.Sendable.{find_region}
+use Rattle.cue_list.specs.Past.{region_with}
 use Rattle.set_coder.specs.declared.coded_picture.CodedPicture.{CodedPicture}
 use Rattle.set_coder.specs.declared.coded_picture.Slots.{Slots}
 use Rattle.sub_base.specs.declared.profile.TheConstants.{LARGEST_BUFFER}
@@ -58,7 +58,7 @@ IsPictureKept pictures coded number region =
 -- the picture that the cue shows is kept for the depth of the region in which it is shown
 abbrev pub IsCueKept : List Picture → List CodedPicture → Epoch → Cue → Type 0
 IsCueKept pictures coded epoch cue =
-    (region : Region) → find_region epoch cue.region ≡ Some region
+    (region : Region) → region_with cue.region epoch.regions ≡ Some region
     → IsPictureKept pictures coded cue.picture region.depth
 
 -- for each cue of each epoch, the picture that it shows is kept

@@ -21,8 +21,8 @@ use Rattle.cue_list.specs.Authored.{picture_at_place}
 use Rattle.cue_list.specs.declared.epoch.Epoch.{Epoch}
 use Rattle.cue_records.specs.declared.region.Region.{Region}
 use Rattle.cue_list.specs.declared.script.Script.{Script}
+use Rattle.cue_list.specs.Past.{region_with}
 use Rattle.page_epoch.specs.Live.{cue_at, no_region}
-use Rattle.page_epoch.specs.Sendable.{find_region}
 use Rattle.page_epoch.specs.SentCluts.{row_at}
 use Rattle.page_epoch.specs.declared.planned_set.PlannedSet.{PlannedSet}
 use Rattle.page_epoch.specs.declared.planned_set.SentClut.{SentClut}
@@ -37,7 +37,7 @@ region_or_none (Some region) = region
 
 -- the region of that number
 abbrev pub epoch_region : Epoch → ℕ → Region
-epoch_region epoch id = region_or_none (find_region epoch id)
+epoch_region epoch id = region_or_none (region_with id epoch.regions)
 
 -- the picture of the cue at that place
 abbrev pub picture_of_cue : List Picture → Epoch → ℕ → Picture

@@ -28,10 +28,11 @@ display_sizes state = DISPLAY_SIZE ∷ []
 abbrev pub page_size : PlannedSet → ℕ
 page_size set = segments.page_size (length set.shown)
 
--- a region, which lists the object of each of its cues, and a CLUT with an entry for each of its colour rows
+-- the bytes of a region segment, which lists the object of each of its cues
 abbrev pub region_size : SentRegion → ℕ
 region_size sent = segments.region_size (length sent.cues)
 
+-- the bytes of a CLUT segment, with an entry for each of its colour rows
 abbrev pub clut_size : SentClut → ℕ
 clut_size sent = segments.clut_size (length sent.rows)
 

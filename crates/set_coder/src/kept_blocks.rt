@@ -6,8 +6,7 @@ ghost use Rattle.set_coder.specs.GrownBlocks.{AreBlocksOf};
 ghost use Rattle.set_coder.specs.Private.Keeping.{StaysInFront, with_place, FitsBuffer};
 
 use crate::coded_picture::{BlockLookup, CodedPicture, KeptBlocks, Slots};
-use crate::named::region_of;
-use cue_list::{Cue, Epoch, Script};
+use cue_list::{Cue, Epoch, Script, region_with};
 use indexed_picture::Indexed;
 use picture_fields::{FieldLengths, FieldSizes, field_sizes, write_fields};
 use pixel_codes::is_no_deeper;
@@ -18,7 +17,7 @@ impl KeptBlocks {
     /// Codes the pictures that the cues of a script show. Blocks of more bytes than the largest
     /// coded data buffer has are not kept: a set with them is refused.
     pub fn of_script(alloc: Global, script: &Script) -> Result<KeptBlocks, NoMemory>
-        ensures right { IfOk result (λ kept. AreCoded script.now.pictures kept.coded.items) }
+        ensures coded { IfOk result (λ kept. AreCoded script.now.pictures kept.coded.items) }
         ensures kept { IfOk result (λ kept. AreKept script.now kept.coded.items) }
         ensures led { IfOk result (λ kept. AreLedTo kept.slots.items kept.coded.items) }
         ensures small { IfOk result (λ kept. All FitsLargestBuffer kept.coded.items) }
@@ -52,7 +51,7 @@ impl KeptBlocks {
             (IsCueKept pictures.now self.new.coded.items epoch.now cue.now) }
         ensures front { StaysInFront self.old.coded.items self.new.coded.items }
     {
-        match region_of(epoch, cue.region) {
+        match region_with(epoch.regions.as_slice(), cue.region) {
             Some(region) => self.keep(pictures, cue.picture, region.depth),
             None => Ok(()),
         }
@@ -262,7 +261,7 @@ impl<'a> BlockLookup<'a> {
     ) -> Option<&'a CodedPicture>
         requires kept { AreCoded _pictures.now self.now.coded.now }
         requires picture { _picture.now ≡ slice_index_or _pictures.now number _picture.now }
-        ensures right { IfSome result (λ coded. IsCoded _picture.now region coded.now) }
+        ensures coded { IfSome result (λ coded. IsCoded _picture.now region coded.now) }
         ensures found { AreLedTo self.now.slots.now self.now.coded.now
             → Any (IsOf number region) self.now.coded.now → IsSome result }
     {

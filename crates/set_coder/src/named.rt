@@ -1,11 +1,11 @@
 ghost use Rattle.std.specs.Prelude.{◌≡◌, Some, slice_get};
 ghost use Rattle.page_epoch.specs.Live.{cue_at};
 ghost use Rattle.page_epoch.specs.SentCluts.{row_at};
-ghost use Rattle.page_epoch.specs.Sendable.{find_region, HasRegion, HasCue, HasColour, IsOfItsEpoch, IsSendableIn};
+ghost use Rattle.page_epoch.specs.Sendable.{HasRegion, HasCue, HasColour, IsOfItsEpoch, IsSendableIn};
 ghost use Rattle.set_coder.specs.SetSegments.{epoch_region};
 ghost use Rattle.set_coder.specs.Usable.{IsUsable, AreDrawable};
 
-use cue_list::{ColourRow, Cue, Epoch, Region, Script};
+use cue_list::{ColourRow, Cue, Epoch, Region, Script, region_with};
 use page_epoch::PlannedSet;
 
 /// The epoch of a set.
@@ -19,26 +19,13 @@ pub fn epoch_of<'a>(script: &'a Script, set: &PlannedSet) -> &'a Epoch
     &script.epochs.as_slice()[set.epoch as usize]
 }
 
-/// The first region of that number, where the epoch has one.
-pub(crate) fn region_of(epoch: &Epoch, id: u8) -> Option<Region>
-    ensures { result ≡ find_region epoch.now id }
-{
-    let regions = epoch.regions.as_slice();
-    for region in regions {
-        if region.id == id {
-            return Some(*region);
-        }
-    }
-    None
-}
-
 /// The region of that number.
 pub(crate) fn epoch_region(epoch: &Epoch, id: u8) -> Region
     requires { HasRegion epoch.now id }
     ensures { result ≡ epoch_region epoch.now id }
 {
     // A plan names regions of its epoch alone.
-    region_of(epoch, id).unwrap()
+    region_with(epoch.regions.as_slice(), id).unwrap()
 }
 
 /// The cue at that place.

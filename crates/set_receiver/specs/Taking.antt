@@ -10,7 +10,7 @@ use Rattle.set_receiver.specs.Receiving.{IsNextReceived, SetReceiving, HasBeenFe
 abbrev pub AreAllBytes : List ℕ → Type 0
 AreAllBytes numbers = All (λ number. number < 256) numbers
 
--- a set or loss comes next, where anything was fed
+-- whatever was fed and taken so far, a set or loss comes next
 abbrev pub HasNextReceived : SetReceiving → Type 0
 HasNextReceived receiving = (ended : Bool) (packets : List (List ℕ)) (given : List (Delivery (List ℕ)))
     → HasBeenFed ended packets given receiving

@@ -74,6 +74,7 @@ pub record IsSplicedUnscheduled (splicing : Splicing) (streams : Streams) (fault
   pub cause : IsScheduleCause loads (splice_pace splicing) fault
   pub found : fault ≢ Memory
 
+-- why two streams that were read are refused: each reason where the tests before it find nothing
 abbrev pub IsSpliceRefused : Splicing → Streams → SpliceFault → Type 0
 IsSpliceRefused splicing streams (splice.Packet second packet fault) =
     HasBadPacket splicing streams second packet fault

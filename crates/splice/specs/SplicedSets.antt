@@ -25,10 +25,11 @@ pub record Streams : Type 0 where
 abbrev pub received_from : ℕ → Splicing → Reception
 received_from origin splicing = for_page splicing.profile splicing.pid splicing.page origin
 
--- the first stream is received with the origin as its anchor, and the second with 0
+-- how the first stream is received: with the origin as its anchor
 abbrev pub first_reception : Splicing → Reception
 first_reception splicing = received_from splicing.origin splicing
 
+-- how the second stream is received: with 0 as its anchor
 abbrev pub second_reception : Splicing → Reception
 second_reception splicing = received_from 0 splicing
 

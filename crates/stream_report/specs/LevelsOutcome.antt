@@ -46,6 +46,8 @@ HasLevelsTold (arrival.Rate bits) made before now status =
 HasLevelsTold arrival.Clock made before now status =
     HasReportedLater (tells_of arrival.Clock made) made.pid before now status
 
+-- what the output of `levels` has received where the stream could not be read on, or memory is wanting; of words that
+-- are no command nothing is said
 abbrev pub HasLevelsRead : Option LevelReport → Seen → Seen → ToolStatus ReportFault → Type 0
 HasLevelsRead None before now status = Unit {0}
 HasLevelsRead (Some report) before now status =

@@ -49,6 +49,8 @@ HasToldPids before now (tool.Refused fault) = Unit {0}
 HasToldPids before now (tool.WriteFault which) = Unit {0}
 HasToldPids before now (tool.InputTooLong which) = Unit {0}
 
+-- what the output of `pids` has received where the stream could not be read on, or memory is wanting; of words that
+-- are no command nothing is said
 abbrev pub HasPidsRead : Option PidsReport → Seen → Seen → ToolStatus ReportFault → Type 0
 HasPidsRead None before now status = Unit {0}
 HasPidsRead (Some report) before now status = HasToldPids before now status

@@ -10,6 +10,7 @@ use Rattle.stream_report.specs.declared.pids_words.PidsReport.{PidsReport}
 abbrev pub is_pids_command : List (List ℕ) → Bool
 is_pids_command words = list_all is_plain words && ((length words == 3) && has_word words 0 (codes "pids"))
 
+-- that the PIDs of a stream are to be told, where the words are `pids STREAM OUT`, which leave nothing to choose
 abbrev pub pids_words : List (List ℕ) → Option PidsReport
 pids_words words = if is_pids_command words then Some (record {}) else None
 

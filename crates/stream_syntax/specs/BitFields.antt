@@ -7,6 +7,7 @@ pub record BitField : Type 0 where
   pub width : ℕ
   pub value : ℕ
 
+-- the field of so many bits that has this value
 abbrev pub field : ℕ → ℕ → BitField
 field bits number = record { width = bits; value = number }
 
@@ -30,6 +31,7 @@ abbrev pub AreFields : List BitField → Type 0
 AreFields [] = ⊤
 AreFields (f ∷ fs) = (f.value < 2 ^ f.width) × AreFields fs
 
+-- each value in these groups of fields fits the width of its field
 abbrev pub AreGroups : List (List BitField) → Type 0
 AreGroups [] = ⊤
 AreGroups (fields ∷ groups) = AreFields fields × AreGroups groups

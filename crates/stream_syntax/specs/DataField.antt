@@ -35,17 +35,21 @@ pub data AreFrames : List ℕ → List Frame → Type 0 where
 
 -- ---- the frames as a function of the bytes
 
+-- the frames of bytes by the fault of the first one: it is broken by that, or a whole segment where there is none;
+-- `behind` gives the frames of the bytes that follow a segment
 abbrev pub frames_by : (List ℕ → List Frame) → List ℕ → Option SegmentFault → List Frame
 frames_by behind bytes (Some fault) = broken fault ∷ []
 frames_by behind bytes None = segment (take (segment_size bytes) bytes) ∷ behind (drop (segment_size bytes) bytes)
 
+-- the frames of bytes, none where the segments have ended; `behind` gives those of the bytes that follow a segment
 abbrev pub frames_at : (List ℕ → List Frame) → List ℕ → List Frame
 frames_at behind bytes = if ends_segments bytes then [] else frames_by behind bytes (first_fault (frame_tests bytes))
 
+-- the frames in bytes, one after another, at most so many
 abbrev pub frames_within : ℕ → List ℕ → List Frame
 frames_within zero bytes = []
 frames_within (suc most) bytes = frames_at (frames_within most) bytes
 
--- there are no more frames than bytes
+-- the frames that stand in the bytes, one after another, up to a broken one; there are no more of them than bytes
 unfoldable pub frames_of : List ℕ → List Frame
 frames_of bytes = frames_within (length bytes) bytes

@@ -87,10 +87,11 @@ written_form time field_bytes = record {
   data_field = field_bytes;
 }
 
--- the bytes before the data field of a packet of this length
+-- the bytes before the data field of a packet with that presentation time and that PES_packet_length
 abbrev pub written_header : ℕ → ℕ → List ℕ
 written_header time count = packed (pes_groups (record (written_form time []) { packet_length = count }))
 
+-- the bytes of the packet that a writer makes of a presentation time and the bytes of a data field
 abbrev pub written_pes : ℕ → List ℕ → List ℕ
 written_pes pts field_bytes = pes_bytes (written_form pts field_bytes)
 
@@ -151,14 +152,16 @@ pes_tests bytes =
 abbrev pub pes_fault : List ℕ → Option PesFault
 pes_fault bytes = first_fault (pes_tests bytes)
 
--- the presentation time in a header, and the segments behind the header and the first two bytes of the data field
+-- the presentation time in a header, in ticks of 90 kHz
 abbrev pub pts_in : List ℕ → ℕ
 pts_in bytes =
     slice_index bytes 9 / 2 % 8 * 2 ^ 30 + big_number 2 (drop 10 bytes) / 2 * 2 ^ 15 + big_number 2 (drop 12 bytes) / 2
 
+-- the bytes of segments, behind the header and the first two bytes of the data field
 abbrev pub segments_in : List ℕ → List ℕ
 segments_in bytes = drop (field_place bytes + 2) bytes
 
+-- the fault, where there is one, else the presentation time and the bytes of segments
 abbrev pub unless_fault : Option PesFault → ℕ × List ℕ → Result (ℕ × List ℕ) PesFault
 unless_fault None value = Ok value
 unless_fault (Some fault) value = Err fault

@@ -42,16 +42,18 @@ listing_tests place (a ∷ b ∷ kinds ∷ c ∷ d ∷ e ∷ rest) =
     ∷ listing_tests (place + 6) rest
 listing_tests place rest = refuse true 4 BadLength ∷ []
 
--- a region: ten bytes and its listings; its sides are not 0, and its depth is 1, 2 or 3
+-- the depth of a region (region_depth): it is 1, 2 or 3
 abbrev pub depth_tests : ℕ → List (Test SegmentFault)
 depth_tests number = refuse (number == 0 || nat_lt 3 number) 12 BadDepth ∷ []
 
+-- a region before its listings: it has ten bytes, its sides are not 0, and its depth is 1, 2 or 3
 abbrev pub region_head_tests : List ℕ → List (Test SegmentFault)
 region_head_tests body =
     refuse (nat_lt (length body) 10) 4 BadLength
     ∷ refuse (word_at 2 body == 0 || word_at 4 body == 0) 8 ZeroSize
     ∷ depth_tests (byte_at 6 body / 4 % 8)
 
+-- a region: its ten bytes, and its listings
 abbrev pub region_tests : List ℕ → List (Test SegmentFault)
 region_tests body = region_head_tests body ++ listing_tests 16 (drop 10 body)
 
@@ -81,23 +83,26 @@ is_window body =
     not (nat_lt (word_at 7 body) (word_at 5 body)) && nat_lt (word_at 7 body) (word_at 1 body + 1)
     && not (nat_lt (word_at 11 body) (word_at 9 body)) && nat_lt (word_at 11 body) (word_at 3 body + 1)
 
--- a display: five bytes, and eight more where it has a window
+-- display_window_flag: the body of a display has a window
 abbrev pub has_window : List ℕ → Bool
 has_window body = byte_at 0 body / 8 % 2 == 1
 
+-- a display: five bytes, and eight more where it has a window, which is not empty and lies inside the display
 abbrev pub display_tests : List ℕ → List (Test SegmentFault)
 display_tests body =
     refuse (nat_lt (length body) 5 || has_window body && nat_lt (length body) 13) 4 BadLength
     ∷ refuse (has_window body && not (is_window body)) 11 BadWindow
     ∷ []
 
--- an object: seven bytes, its two blocks, and perhaps a byte 00; its coding method is 0, pixels
+-- object_coding_method: 0 is pixels
 abbrev pub coding_method : List ℕ → ℕ
 coding_method body = byte_at 2 body / 4 % 4
 
+-- how many bytes an object has up to the end of its two blocks, by the lengths of these
 abbrev pub object_size : List ℕ → ℕ
 object_size body = 7 + word_at 3 body + word_at 5 body
 
+-- an object: seven bytes, its two blocks, and perhaps a byte 00; its coding method is 0, pixels
 abbrev pub object_tests : List ℕ → List (Test SegmentFault)
 object_tests body =
     refuse (nat_lt (length body) 3) 4 BadLength
@@ -109,10 +114,11 @@ object_tests body =
     && not (length body == object_size body + 1 && byte_at (object_size body) body == 0)) 4 BadLength
     ∷ []
 
--- the blocks of an object
+-- the block of the top field in the body of an object
 abbrev pub top_in : List ℕ → List ℕ
 top_in body = take (word_at 3 body) (drop 7 body)
 
+-- the block of the bottom field in the body of an object
 abbrev pub bottom_in : List ℕ → List ℕ
 bottom_in body = take (word_at 5 body) (drop (7 + word_at 3 body) body)
 

@@ -33,7 +33,7 @@ pub record Region : Type 0 where
   pub head : RegionHead
   pub listings : List Listing
 
--- the entries of a CLUT
+-- what a CLUT definition says: the id of the CLUT, the version, and the entries that it sets
 pub record Clut : Type 0 where
   pub clut : ℕ
   pub version : ℕ
@@ -66,21 +66,24 @@ pub data SegmentValue : Type 0 where
 
 -- ---- the tables
 
--- the bytes of a table
+-- how many bits a row of a table has
 abbrev pub width_of : Field → ℕ
 width_of (number width n) = width
 width_of (reserved width) = width
 
+-- how many bytes a table has
 abbrev pub byte_count : List Field → ℕ
 byte_count fields = sum_by width_of fields / 8
 
--- bytes as they are, and so many bytes that may be anything
+-- the rows of bytes as they are
 abbrev pub bytes_fields : List ℕ → List Field
 bytes_fields bytes = map (number 8) bytes
 
+-- the rows of so many bytes that may be anything
 abbrev pub free_bytes : ℕ → List Field
 free_bytes count = replicate count (reserved 8)
 
+-- the bit of a flag: 1 where it is set
 abbrev pub flag : Bool → ℕ
 flag false = 0
 flag true = 1
@@ -94,10 +97,11 @@ head_fields kind page size =
     ∷ number 16 size
     ∷ []
 
+-- a segment of that segment type and page, its head and the table of its body (7.2)
 abbrev pub segment_fields : ℕ → ℕ → List Field → List Field
 segment_fields kind page body = head_fields kind page (byte_count body) ++ body
 
--- page composition segment (7.2.2)
+-- page_state in a page composition segment (7.2.2)
 abbrev pub state_number : State → ℕ
 state_number Normal = 0
 state_number Acquisition = 1
@@ -109,6 +113,7 @@ is_entry_state Normal = false
 is_entry_state Acquisition = true
 is_entry_state ModeChange = true
 
+-- a region that a page shows: region_id, reserved, region_horizontal_address, region_vertical_address (7.2.2)
 abbrev pub page_entry_fields : PageEntry → List Field
 page_entry_fields entry =
     number 8 entry.region
@@ -117,6 +122,7 @@ page_entry_fields entry =
     ∷ number 16 entry.y
     ∷ []
 
+-- the body of a page composition segment (7.2.2)
 abbrev pub page_fields : Page → List Field
 page_fields page =
     number 8 page.time_out
@@ -125,12 +131,13 @@ page_fields page =
     ∷ reserved 2
     ∷ flat_map page_entry_fields page.entries
 
--- region composition segment (7.2.3), with its level of compatibility; each object has type 0 and provider 0
+-- region_depth in a region composition segment (7.2.3)
 abbrev pub depth_number : Depth → ℕ
 depth_number Two = 1
 depth_number Four = 2
 depth_number Eight = 3
 
+-- an object that a region shows, with its place in the region (7.2.3); it has type 0 and provider 0
 abbrev pub listing_fields : Listing → List Field
 listing_fields listing =
     number 16 listing.object
@@ -141,6 +148,7 @@ listing_fields listing =
     ∷ number 12 listing.y
     ∷ []
 
+-- the body of a region composition segment with that level of compatibility (7.2.3)
 abbrev pub region_fields : ℕ → Region → List Field
 region_fields compatibility region =
     number 8 region.head.region
@@ -159,11 +167,13 @@ region_fields compatibility region =
     ∷ reserved 2
     ∷ flat_map listing_fields region.listings
 
--- CLUT definition segment (7.2.4): a colour is coded in the full range, or by its high bits
+-- a colour in a CLUT definition segment (7.2.4): it is coded in the full range, or by its high bits
 pub data CodedColour : Type 0 where
   full : ℕ → ℕ → ℕ → ℕ → CodedColour
   short : ℕ → ℕ → ℕ → ℕ → CodedColour
 
+-- an entry in a CLUT definition segment (7.2.4): its id, whether it is set in the CLUTs of 2, of 4 and of 8 bits, and
+-- its colour as it is coded
 pub record CodedEntry : Type 0 where
   pub entry : ℕ
   pub two : Bool
@@ -171,14 +181,17 @@ pub record CodedEntry : Type 0 where
   pub eight : Bool
   pub coded : CodedColour
 
+-- full_range_flag (7.2.4)
 abbrev pub full_range : CodedColour → ℕ
 full_range (full y cr cb t) = 1
 full_range (short y cr cb t) = 0
 
+-- Y_value, Cr_value, Cb_value and T_value (7.2.4): in the full range of 8 bits each, else of 6, 4, 4 and 2 bits
 abbrev pub colour_fields : CodedColour → List Field
 colour_fields (full y cr cb t) = number 8 y ∷ number 8 cr ∷ number 8 cb ∷ number 8 t ∷ []
 colour_fields (short y cr cb t) = number 6 y ∷ number 4 cr ∷ number 4 cb ∷ number 2 t ∷ []
 
+-- CLUT_entry_id, the flags of an entry, and its colour (7.2.4)
 abbrev pub coded_entry_fields : CodedEntry → List Field
 coded_entry_fields coded =
     number 8 coded.entry
@@ -189,6 +202,7 @@ coded_entry_fields coded =
     ∷ number 1 (full_range coded.coded)
     ∷ colour_fields coded.coded
 
+-- the body of a CLUT definition segment: CLUT-id, CLUT_version_number, reserved, and the entries (7.2.4)
 abbrev pub clut_fields : ℕ → ℕ → List CodedEntry → List Field
 clut_fields clut version coded =
     number 8 clut
@@ -201,6 +215,7 @@ abbrev pub colour_of : CodedColour → Colour
 colour_of (full y cr cb t) = shown_of (record { y = y; cr = cr; cb = cb; t = t })
 colour_of (short y cr cb t) = shown_of (record { y = y * 4; cr = cr * 16; cb = cb * 16; t = t * 64 })
 
+-- the entry that a coded one stands for, with the colour that is shown
 abbrev pub entry_of : CodedEntry → ClutEntry
 entry_of coded =
     record {
@@ -212,11 +227,12 @@ entry_of coded =
           coded.coded;
     }
 
--- object data segment (7.2.5), with coding method 0, and with or without the byte that makes its length even
+-- 8_stuff_bits (7.2.5): the byte 00 that makes the length of an object even, where it is there
 abbrev pub padding : Bool → List Field
 padding false = []
 padding true = number 8 0 ∷ []
 
+-- the body of an object data segment (7.2.5) with coding method 0, with or without a byte 00 at its end
 abbrev pub object_fields : Bool → Object → List Field
 object_fields padded object =
     number 16 object.object
@@ -228,11 +244,12 @@ object_fields padded object =
     ∷ number 16 (length object.bottom)
     ∷ (bytes_fields object.top ++ (bytes_fields object.bottom ++ padding padded))
 
--- display definition segment (7.2.1), with so many further bytes
+-- display_window_flag in a display definition segment (7.2.1)
 abbrev pub window_flag : Option Window → ℕ
 window_flag None = 0
 window_flag (Some window) = 1
 
+-- the first and last column and the first and last row of the window, where there is one (7.2.1)
 abbrev pub window_fields : Option Window → List Field
 window_fields None = []
 window_fields (Some window) =
@@ -242,6 +259,7 @@ window_fields (Some window) =
     ∷ number 16 window.bottom
     ∷ []
 
+-- the body of a display definition segment with so many further bytes (7.2.1); a side is sent as one less than it is
 abbrev pub display_fields : ℕ → Display → List Field
 display_fields further display =
     number 4 display.version
@@ -323,7 +341,7 @@ pub record IsSegment (bytes : List ℕ) (value : SegmentValue) : Type 0 where
   pub is_body : IsBody value kind body
   pub fits : FitsFields (segment_fields kind page body)
   pub laid : HasFields (segment_fields kind page body) (bits_of bytes)
-  pub right : IsValid value
+  pub valid : IsValid value
 
 -- ---- what a writer makes of a value
 
@@ -364,6 +382,7 @@ written_body (of_display value) = display_fields 0 value
 written_body end_of_set = []
 written_body passed_over = []
 
+-- the table of the whole segment that a writer makes of a value, on that page
 abbrev pub written_fields : ℕ → SegmentValue → List Field
 written_fields page value = segment_fields (segment_kind value) page (written_body value)
 
@@ -371,7 +390,8 @@ written_fields page value = segment_fields (segment_kind value) page (written_bo
 unfoldable pub spelled : ℕ → SegmentValue → List ℕ
 spelled page value = bytes_of (written (written_fields page value))
 
--- the bytes begin with a head of this segment type and this page, whose length ends with the bytes
+-- behind their sync byte the bytes begin with this segment type, this page and a length (segment_length) that ends
+-- with the bytes
 pub record IsHeadedBy (kind page : ℕ) (bytes : List ℕ) : Type 0 where
   pub kind_is : byte_at 1 bytes ≡ kind
   pub page_is : word_at 2 bytes ≡ page
@@ -386,5 +406,5 @@ HasShownColours value = Unit {0}
 -- colours are as they are shown
 pub record IsWritable (page : ℕ) (value : SegmentValue) : Type 0 where
   pub fits : FitsFields (written_fields page value)
-  pub right : IsValid value
+  pub valid : IsValid value
   pub shown : HasShownColours value

@@ -8,6 +8,7 @@ use Rattle.stream_syntax.specs.Tests.{Test, test, first_fault}
 
 -- ---- what a packet says
 
+-- the packet begins with the sync byte (sync_byte)
 abbrev pub has_sync : List ℕ → Bool
 has_sync packet = slice_index packet 0 == SYNC_BYTE
 
@@ -19,6 +20,7 @@ has_error_flag packet = slice_index packet 1 / 128 == 1
 abbrev pub has_start_flag : List ℕ → Bool
 has_start_flag packet = slice_index packet 1 / 64 % 2 == 1
 
+-- PID, a number of 13 bits
 abbrev pub pid_of : List ℕ → ℕ
 pid_of packet = slice_index packet 1 % 32 * 256 + slice_index packet 2
 
@@ -30,6 +32,7 @@ scrambling_of packet = slice_index packet 3 / 64
 abbrev pub control_of : List ℕ → ℕ
 control_of packet = slice_index packet 3 / 16 % 4
 
+-- the packet has a payload, alone or behind an adaptation field
 abbrev pub has_payload : List ℕ → Bool
 has_payload packet = (control_of packet == 1) || (control_of packet == 3)
 
@@ -82,6 +85,7 @@ pub record PacketHead : Type 0 where
   pub control : ℕ
   pub counter : ℕ
 
+-- the layout of the four bytes of the head: fields with widths in bits, grouped by bytes
 abbrev pub head_groups : PacketHead → List (List BitField)
 head_groups head =
     (field 8 SYNC_BYTE ∷ [])

@@ -68,16 +68,19 @@ each_after f before (packet ∷ packets) = f before packet ∷ each_after f (bef
 unfoldable pub parts_of : ℕ → List (List ℕ) → List UnitPart
 parts_of pid packets = filter_map (λ part. part) (each_after (part_of pid) [] packets)
 
+-- the part is the beginning of a unit
 abbrev pub begins_unit : UnitPart → Bool
 begins_unit (Begins payload) = true
 begins_unit (Adds payload) = false
 begins_unit Breaks = false
 
+-- the part breaks off a unit
 abbrev pub breaks_unit : UnitPart → Bool
 breaks_unit (Begins payload) = false
 breaks_unit (Adds payload) = false
 breaks_unit Breaks = true
 
+-- the bytes that a part puts into a unit
 abbrev pub bytes_in : UnitPart → List ℕ
 bytes_in (Begins payload) = payload
 bytes_in (Adds payload) = payload
@@ -105,6 +108,7 @@ fate_of size bytes =
     else if nat_lt (length bytes) (need_of bytes) then Waits
     else Whole (take (need_of bytes) bytes)
 
+-- the unit waits for more bytes
 abbrev pub is_waiting : Fate → Bool
 is_waiting Waits = true
 is_waiting (Whole bytes) = false
@@ -116,6 +120,7 @@ last_unit [] = []
 last_unit (part ∷ parts) =
     if list_any begins_unit parts then last_unit parts else if begins_unit part then part ∷ parts else []
 
+-- the bytes of parts, one part after another
 abbrev pub gathered : List UnitPart → List ℕ
 gathered parts = flat_map bytes_in parts
 
@@ -125,6 +130,7 @@ stays_in_hand size unit =
     list_all (λ part. not (breaks_unit part)) unit
     && list_all (λ front. is_waiting (fate_of size (gathered front))) (prefixes unit)
 
+-- the bytes of the unit that these parts are, where it is in hand; a unit has room for so many bytes
 abbrev pub unit_in_hand : ℕ → List UnitPart → Option (List ℕ)
 unit_in_hand size [] = None
 unit_in_hand size (part ∷ parts) =
@@ -174,6 +180,8 @@ abbrev pub added : ℕ → Option (List ℕ) → List ℕ → Event
 added size None payload = event.Dropped
 added size (Some bytes) payload = followed size (fate_of size (bytes ++ payload))
 
+-- what becomes of a payload packet, by the unit in hand, how its counter stands to the one before it, its start flag
+-- and its payload
 abbrev pub payload_event : ℕ → Option (List ℕ) → Succession → Bool → List ℕ → Event
 payload_event size hand Again start payload = event.Double
 payload_event size hand (Missing expected found) start payload = event.Gap expected found

@@ -24,10 +24,12 @@ IsMapTableBetween Two Eight table = length table ≡ table_size TwoToEight
 IsMapTableBetween Four Eight table = length table ≡ table_size FourToEight
 IsMapTableBetween depth region table = IsNoDeeper depth region
 
--- the same for the depths of a brush
+-- the region's code for a code of a string, by the depths of a brush
 abbrev pub region_code : Brush → List ℕ → ℕ → ℕ
 region_code brush table code = code_mapped brush.string brush.region table code
 
+-- these are the bytes of the map table between the depths of a brush; where none lies between them, a string of the one
+-- may stand in a region of the other
 abbrev pub IsMapTable : Brush → List ℕ → Type 0
 IsMapTable brush table = IsMapTableBetween brush.string brush.region table
 

@@ -13,6 +13,7 @@ pub record Stand : Type 0 where
   pub rest : List ℕ
   pub maps : Maps
 
+-- where a pen stands, what it has left of the block, and its map tables
 abbrev pub stand_of : Pen → Stand
 stand_of pen = record { x = pen.x; row = pen.row; rest = pen.rest.now; maps = pen.tables }
 

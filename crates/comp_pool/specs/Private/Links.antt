@@ -9,6 +9,7 @@ abbrev pub Chain : (next back : ℕ → ℕ) → ℕ → List ℕ → ℕ → Ty
 Chain next back a [] b = (next a ≡ b) × (back b ≡ a)
 Chain next back a (x ∷ xs) b = (next a ≡ x) × (back x ≡ a) × Chain next back x xs b
 
+-- each of these numbers is a node, and not the end of a list
 abbrev pub AllNodes : ℕ → List ℕ → Type 0
 AllNodes count [] = Unit {0}
 AllNodes count (x ∷ xs) = (x < count) × AllNodes count xs
@@ -24,9 +25,11 @@ lists_of count nexts =
     map (λ l. walk (slice_index nexts) count count (slice_index nexts (count + l)))
     (range_with_len 0 (length nexts - count))
 
+-- list l of these, and an empty one where there is none
 abbrev pub list_at : List (List ℕ) → ℕ → List ℕ
 list_at lists l = slice_index_or lists l []
 
+-- the links go from the end of a list over these nodes, in order, and back to it, and the links back likewise
 pub record IsRing (count : ℕ) (nexts backs : List ℕ) (end : ℕ) (xs : List ℕ) : Type 0 where
   pub chain : Chain (slice_index nexts) (slice_index backs) end xs end
   pub nodes : AllNodes count xs
@@ -56,10 +59,11 @@ appended n l lists = slice_set lists l (list_at lists l ++ n ∷ [])
 abbrev pub moved : ℕ → ℕ → ℕ → List (List ℕ) → List (List ℕ)
 moved n a b lists = appended n b (removed n a lists)
 
--- the links when all nodes are free: list 0 has them in order, and each other list is empty
+-- the link of a place forward when all nodes are free: list 0 has them in order, and each other list is empty
 abbrev pub next_when_free : ℕ → ℕ → ℕ
 next_when_free count place = if nat_lt place count then place + 1 else (if place == count then 0 else place)
 
+-- the link of a place back when all nodes are free, in order in list 0
 abbrev pub back_when_free : ℕ → ℕ → ℕ
 back_when_free count place = if place == 0 then count else (if nat_lt count place then place else place - 1)
 

@@ -12,6 +12,8 @@ use Rattle.cue_records.specs.Rows.{Row}
 abbrev pub tick_in : Row → Option ℕ
 tick_in cells = number_of MOST_DIGITS (cell_at cells 1)
 
+-- the first tick that a row of that kind has a part in, as it is read: its own, and for a region the start of its
+-- epoch; none of other kinds
 abbrev pub tick_read : ScriptPast → RowKind → Row → Option ℕ
 tick_read past kinds.Epoch cells = tick_in cells
 tick_read past kinds.Place cells = tick_in cells

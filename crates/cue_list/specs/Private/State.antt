@@ -23,6 +23,7 @@ use Rattle.cue_list.specs.RowFaults.{regions_of, kind_fault}
 use Rattle.cue_records.specs.Rows.{Row}
 use Rattle.cue_list.specs.Private.Ticks.{IsTicks, near_by, near_with}
 
+-- the depth and the sides of a picture
 abbrev pub head_of : Picture → PictureHead
 head_of picture = record { depth = picture.depth; width = picture.width; height = picture.height }
 
@@ -57,31 +58,41 @@ pub record IsReader (reader : Reader) : Type 0 where
 
 -- ---- one more record
 
+-- an epoch with one more region, behind its others
 abbrev pub with_region : Region → Epoch → Epoch
 with_region region epoch = record epoch { regions = epoch.regions ++ region ∷ [] }
 
+-- an epoch with one more colour of a CLUT entry, behind its others
 abbrev pub with_colour : ColourRow → Epoch → Epoch
 with_colour row epoch = record epoch { colours = epoch.colours ++ row ∷ [] }
 
+-- an epoch with one more cue behind its others, where there is one
 abbrev pub with_cue : Option Cue → Epoch → Epoch
 with_cue cue epoch = record epoch { cues = with_last epoch.cues cue }
 
+-- the epoch that the `epoch` record of that number starts, with nothing listed yet
 abbrev pub new_epoch : ℕ → Row → Epoch
 new_epoch number cells = record { start = value_at cells 1; row = number; regions = []; colours = []; cues = [] }
 
+-- how many codes a picture has, where there is one
 abbrev pub area_of : Option PictureHead → ℕ
 area_of None = 0
 area_of (Some head) = area head
 
+-- what is found with one more `origin` record: its tick is the origin
 abbrev pub origin_next : ScriptPast → Row → ScriptPast
 origin_next past cells = record past { origin = value_at cells 1 }
 
+-- what is found with one more `display` record: its width and height in pixels
 abbrev pub display_next : ScriptPast → Row → ScriptPast
 display_next past cells = record past { width = value_at cells 1; height = value_at cells 2 }
 
+-- what is found with one more `refresh` record: its seconds
 abbrev pub refresh_next : ScriptPast → Row → ScriptPast
 refresh_next past cells = record past { seconds = value_at cells 1 }
 
+-- what is found with one more `epoch` record of that number: the epoch before has ended, a new one begins, and its tick
+-- is named
 abbrev pub epoch_next : ScriptPast → ℕ → Row → ScriptPast
 epoch_next past number cells = record past {
   ended = with_last past.ended past.epoch;
@@ -89,9 +100,11 @@ epoch_next past number cells = record past {
   is_near = near_with (value_at cells 1) past.is_near;
 }
 
+-- what is found with one more `region` record: the last epoch has its region
 abbrev pub region_next : ScriptPast → Row → ScriptPast
 region_next past cells = record past { epoch = option_map (with_region (region_in cells)) past.epoch }
 
+-- what is found with one more `colour` record of that number: the last epoch has its colour, and its tick is named
 abbrev pub colour_next : ScriptPast → ℕ → Row → ScriptPast
 colour_next past number cells = record past {
   epoch = option_map (with_colour (colour_in number cells)) past.epoch;
@@ -99,6 +112,7 @@ colour_next past number cells = record past {
   is_near = near_with (value_at cells 1) past.is_near;
 }
 
+-- what is found with one more `picture` record: one more picture, which is from now on the one of its name
 abbrev pub picture_next : ScriptPast → Row → ScriptPast
 picture_next past cells = record past {
   pictures = past.pictures + 1;
@@ -107,6 +121,8 @@ picture_next past cells = record past {
   named = named_with (cell_at cells 1) (length past.heads) past.named;
 }
 
+-- what is found with one more `place` record of that number: the last epoch has a cue of the picture that it names,
+-- and its two ticks are named
 abbrev pub place_next : ScriptPast → ℕ → Row → ScriptPast
 place_next past number cells = record past {
   epoch = option_map (with_cue (cue_by past.named (length past.heads) kinds.Place number cells)) past.epoch;
@@ -114,6 +130,8 @@ place_next past number cells = record past {
   is_near = near_with (value_at cells 1) (near_with (value_at cells 2) past.is_near);
 }
 
+-- what is found with one more `cue` record of that number: one more picture, of its text in the font; the last epoch
+-- has a cue of it, and its two ticks are named
 abbrev pub cue_next : FontValue → ScriptPast → ℕ → Row → ScriptPast
 cue_next font past number cells = record past {
   epoch = option_map (with_cue (cue_by past.named (length past.heads) kinds.Cue number cells)) past.epoch;
@@ -123,6 +141,7 @@ cue_next font past number cells = record past {
   is_near = near_with (value_at cells 1) (near_with (value_at cells 2) past.is_near);
 }
 
+-- what is found with one more valid record of that kind and number, but for the count of records
 abbrev pub next_by : FontValue → ScriptPast → RowKind → ℕ → Row → ScriptPast
 next_by font past kinds.Origin number cells = origin_next past cells
 next_by font past kinds.Display number cells = display_next past cells

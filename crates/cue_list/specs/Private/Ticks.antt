@@ -25,12 +25,15 @@ is_near_by named_in tick =
 abbrev pub AreSpans : (ℕ → Option ℕ) → Type 0
 AreSpans named_in = (span tick : ℕ) → named_in span ≡ Some tick → span_of tick ≡ span
 
+-- the tick that was named in a span, where one was
 abbrev pub named_by : Ticks → ℕ → Option ℕ
 named_by ticks = get nat_cmp ticks.spans
 
+-- a tick is close to one of the ticks that were named
 abbrev pub near_by : Ticks → ℕ → Bool
 near_by ticks = is_near_by (named_by ticks)
 
+-- what is true of the ticks that a reader keeps: each is kept by its own span
 abbrev pub IsTicks : Ticks → Type 0
 IsTicks ticks = AreSpans (named_by ticks)
 

@@ -6,6 +6,7 @@ use Rattle.sub_base.specs.declared.status.Which.TheVariants as which
 use Rattle.dvbsub_cmd.specs.declared.status.Status.{Status}
 use Rattle.dvbsub_cmd.specs.declared.status.Status.TheVariants as status
 
+-- the status of a command by the fault that kept its packets from being made, or from being written to the output
 abbrev pub status_of_fault : CompileFault → Status
 status_of_fault (compile.Send send.Memory) = status.Memory
 status_of_fault (compile.Send (send.Plan fault)) = status.PlanRefused fault

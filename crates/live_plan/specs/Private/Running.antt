@@ -27,6 +27,7 @@ pub record Begun : Type 0 where
   pub out : Received
   pub notes : Received
 
+-- the beginning of a run that stands so, with what its output and its notes have received by then
 abbrev pub begun_of : Run → Received → Received → Begun
 begun_of run its_out its_notes = record { inserter = run.live.inserter; out = its_out; notes = its_notes }
 

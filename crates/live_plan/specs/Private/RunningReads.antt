@@ -52,6 +52,7 @@ pub record AllAreTaken (begun : Begun) (earlier : List (List ℕ)) (front bytes 
   pub paid : IsPaid begun earlier (pieces_behind front bytes).whole out notes run
   pub rest : now ≡ (pieces_behind front bytes).rest
 
+-- the pieces of bytes that were read went in, and what is due with them is written; or the run stopped at one of them
 abbrev pub AreTaken : Begun → List (List ℕ) → List ℕ → List ℕ → Received → Received → Run → List ℕ
     → Result Unit Stop → Type 0
 AreTaken begun earlier front bytes out notes run now (Ok done) =

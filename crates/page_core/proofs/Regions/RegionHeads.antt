@@ -21,7 +21,7 @@ valid_head bytes region is =
     let body : List Field = region_fields is.is_body.1 region in
     let fits : FitsFields (segment_fields is.kind is.page body) =
     subst (λ (fields : List Field). FitsFields (segment_fields is.kind is.page fields)) is.is_body.2 is.fits in
-    record { fits = fields_of_head bytes region is; region = fits.1.1.1.1.0; width = is.right.0; height = is.right.1 }
+    record { fits = fields_of_head bytes region is; region = fits.1.1.1.1.0; width = is.valid.0; height = is.valid.1 }
 
 pub valid_value : (bytes : List ℕ) (value : SegmentValue) → IsSegment bytes value → IsValidValue value
 valid_value bytes (of_page value) is = tt

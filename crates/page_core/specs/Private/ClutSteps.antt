@@ -84,6 +84,7 @@ colour_at asked placed = if is_same_entry asked placed.entry then Some placed.co
 abbrev pub placed_colour : List Placed → TableEntry → Colour
 placed_colour placed asked = unwrap_or (first_given (colour_at asked) placed) (default_of asked.depth asked.entry)
 
+-- the table entry to which a colour was given
 abbrev pub entry_of : Placed → TableEntry
 entry_of placed = placed.entry
 
@@ -94,13 +95,17 @@ in_depth clut entry depth placed =
     then record { entry = record { clut = clut; depth = depth; entry = entry.entry }; colour = entry.colour } ∷ placed
     else placed
 
+-- an entry of a segment of the CLUT of that id is placed in each of the three tables for which it is flagged and that
+-- have it
 abbrev pub in_depths : ℕ → ClutEntry → List Placed → List Placed
 in_depths clut entry placed = in_depth clut entry Eight (in_depth clut entry Four (in_depth clut entry Two placed))
 
+-- the entries of a segment of the CLUT of that id are placed one after another, behind what was placed before
 abbrev pub with_entries_of : ℕ → List ClutEntry → List Placed → List Placed
 with_entries_of clut [] placed = placed
 with_entries_of clut (entry ∷ entries) placed = with_entries_of clut entries (in_depths clut entry placed)
 
+-- the entries of a CLUT segment are placed behind what was placed before; without such a segment nothing more is
 abbrev pub with_segment : Option Clut → List Placed → List Placed
 with_segment None placed = placed
 with_segment (Some clut) placed = with_entries_of clut.clut clut.entries placed

@@ -27,6 +27,7 @@ abbrev pub gone_by : Region → Option KeptRegion → ℕ
 gone_by region None = 0
 gone_by region (Some kept) = if kept.head.version == region.head.version then 0 else length kept.listings
 
+-- these segments of an epoch, the latest first, as those that are taken
 abbrev pub of_taken : List Content → Taken
 of_taken taken = record { segments = taken }
 
@@ -44,7 +45,7 @@ pub record IsKeptOf (kept : Option KeptRegion) (last : Option Region) : Type 0 w
 abbrev pub AreKept : List Content → Composition → Type 0
 AreKept segments composition = (id : ℕ) → IsKeptOf (region_in composition id) (taken_region id (taken_of segments))
 
--- the regions of a set add so many nodes, and take so many away
+-- the regions of a set add so many nodes, no more than 65,536 for each of 256 regions, and take so many away
 pub record HasRegionNeed (older set : List Content) (added gone : ℕ) : Type 0 where
   pub exact : region_need (taken_among (reverse (filter is_region set) ++ before_regions older set)) + gone
       ≡ region_need (taken_among older) + added

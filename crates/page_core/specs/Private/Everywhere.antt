@@ -41,6 +41,7 @@ IsPaintedAt painter (node.Listing kept) old new = new ≡ old
 IsPaintedAt painter (node.Clut clut) old new = new ≡ old
 IsPaintedAt painter (node.Colour place) old new = new ≡ old
 
+-- nothing but the codes of the region that the node has may have changed in the store; nothing where it has none
 abbrev pub KeepsAt : Node → Regions → Regions → Type 0
 KeepsAt (node.Entry entry) old new = new ≡ old
 KeepsAt (node.Region region) old new = KeepsOthers region.slot old new
@@ -55,6 +56,7 @@ IsWrittenIn painter content pool region old new =
     (λ x y. last_given (code_by_pair painter (field_runs region.head.depth content.top content.bottom) x y)
     (list_of pool (listings_list region.head.region))) old new
 
+-- what the object writes to the region of a node, where it has no fault there; of any other node nothing is said
 abbrev pub IsWrittenAt : Painter → Content → Object → PoolOf Node → Node → Regions → Regions → Type 0
 IsWrittenAt painter content object pool (node.Entry entry) old new = Unit {0}
 IsWrittenAt painter content object pool (node.Region region) old new =
@@ -78,11 +80,12 @@ pub record IsEverywhere (painter : Painter) (old new : PoolOf Node) : Type 0 whe
       → list_of new (listings_list id)
       ≡ painted_where painter (list_any (is_region_of id) (list_of old 1)) (list_of old (listings_list id))
 
--- a region behind the object, and the composition
+-- a region behind the object
 abbrev pub painted_kept : Painter → KeptRegion → KeptRegion
 painted_kept painter kept =
     record { head = kept.head; slot = kept.slot; listings = map (painted_listing painter) kept.listings }
 
+-- the composition behind the object: in all regions the listings that it paints have its version
 abbrev pub with_all_painted : Painter → Composition → Composition
 with_all_painted painter composition = record composition { regions = map (painted_kept painter) composition.regions }
 

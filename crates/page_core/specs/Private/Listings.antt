@@ -38,10 +38,11 @@ code_by_node object fields x y (Some kept) = code_by_kept object fields x y kept
 abbrev pub code_by_pair : Painter → FieldRuns → ℕ → ℕ → NodeId × Node → Option ℕ
 code_by_pair object fields x y pair = code_by_node object fields x y (listing_in pair.1)
 
--- what a node has behind the object
+-- the object paints the listing that a node has
 abbrev pub due_node : Painter → ListingNode → Bool
 due_node object kept = (kept.listing.object == object.object) && has_new_version object.version kept.painted
 
+-- what a node has behind the object: a listing that it paints has its version, and all else is as it was
 abbrev pub painted_node : Painter → Node → Node
 painted_node object (node.Entry entry) = node.Entry entry
 painted_node object (node.Region region) = node.Region region

@@ -17,6 +17,7 @@ use Rattle.page_core.specs.declared.node.TablePlace.{TablePlace}
 
 -- ---- the kinds of nodes
 
+-- the entry of the page that a node has, if it has one
 abbrev pub entry_in : Node → Option PageEntry
 entry_in (node.Entry entry) = Some entry
 entry_in (node.Region region) = None
@@ -24,6 +25,7 @@ entry_in (node.Listing listing) = None
 entry_in (node.Clut clut) = None
 entry_in (node.Colour place) = None
 
+-- the head and the slot of the region that a node has, if it has one
 abbrev pub region_node : Node → Option RegionNode
 region_node (node.Entry entry) = None
 region_node (node.Region region) = Some region
@@ -31,9 +33,11 @@ region_node (node.Listing listing) = None
 region_node (node.Clut clut) = None
 region_node (node.Colour place) = None
 
+-- the listing of a node, as a composition keeps it
 abbrev pub listing_kept : ListingNode → KeptListing
 listing_kept kept = record { listing = kept.listing; painted = kept.painted }
 
+-- the listing of a region that a node has, if it has one
 abbrev pub listing_in : Node → Option KeptListing
 listing_in (node.Entry entry) = None
 listing_in (node.Region region) = None
@@ -41,9 +45,11 @@ listing_in (node.Listing listing) = Some (listing_kept listing)
 listing_in (node.Clut clut) = None
 listing_in (node.Colour place) = None
 
+-- the CLUT of a node, as a composition keeps it
 abbrev pub clut_kept : ClutNode → KeptClut
 clut_kept kept = record { clut = kept.clut; version = kept.version }
 
+-- the CLUT that a node has, if it has one
 abbrev pub clut_node : Node → Option KeptClut
 clut_node (node.Entry entry) = None
 clut_node (node.Region region) = None
@@ -51,9 +57,11 @@ clut_node (node.Listing listing) = None
 clut_node (node.Clut clut) = Some (clut_kept clut)
 clut_node (node.Colour place) = None
 
+-- the table entry that a node stands for: the id of its CLUT, the depth of its table, and its number there
 abbrev pub place_kept : TablePlace → TableEntry
 place_kept place = record { clut = place.clut; depth = place.depth; entry = place.entry }
 
+-- the table entry that is set by what a node has, if it has one
 abbrev pub colour_in : Node → Option TableEntry
 colour_in (node.Entry entry) = None
 colour_in (node.Region region) = None
@@ -67,6 +75,7 @@ colour_in (node.Colour place) = Some (place_kept place)
 abbrev pub list_count : ℕ
 list_count = 260
 
+-- the number of the list that has the listings of the region of that id
 abbrev pub listings_list : ℕ → ℕ
 listings_list id = 4 + id
 
@@ -78,6 +87,7 @@ kept_in kind pairs = filter_map (λ (pair : NodeId × Node). kind pair.1) pairs
 abbrev pub AreKind : {X : Type 0} → (Node → Option X) → List (NodeId × Node) → Type 0
 AreKind kind pairs = All (λ (pair : NodeId × Node). is_some (kind pair.1) ≡ true) pairs
 
+-- the region of a node, as a composition keeps it, with the listings that the pool has of it
 abbrev pub region_kept : PoolOf Node → RegionNode → KeptRegion
 region_kept pool region =
     record {
@@ -107,13 +117,15 @@ pub record IsSorted (pool : PoolOf Node) : Type 0 where
   pub colours : AreKind colour_in (list_of pool 3)
   pub listings : (id : ℕ) → id < 256 → AreKind listing_in (list_of pool (listings_list id))
 
--- the region of an id, and the CLUT of an id, as a node has it
+-- the node of a pair has the region of that id
 abbrev pub is_region_of : ℕ → NodeId × Node → Bool
 is_region_of id pair = option_map_or (λ (region : RegionNode). region.head.region == id) (region_node pair.1) false
 
+-- the node of a pair has the CLUT of that id
 abbrev pub is_clut_of : ℕ → NodeId × Node → Bool
 is_clut_of id pair = option_map_or (λ (kept : KeptClut). kept.clut == id) (clut_node pair.1) false
 
+-- the node of a pair, without its item
 abbrev pub node_of : NodeId × Node → NodeId
 node_of pair = pair.0
 

@@ -49,6 +49,7 @@ is_due_node painter (node.Listing kept) = due_node painter kept
 is_due_node painter (node.Clut clut) = false
 is_due_node painter (node.Colour place) = false
 
+-- the object paints through the node of a pair
 abbrev pub is_due_pair : Painter → NodeId × Node → Bool
 is_due_pair painter pair = is_due_node painter pair.1
 
@@ -69,6 +70,7 @@ fault_in_region_node pool painter content object region =
     if list_any (is_due_pair painter) (list_of pool (listings_list region.head.region))
     then option_map (in_region region.head.region) (depth_fault region.head.depth content object) else None
 
+-- the fault of the object in the region that a node has, with the id of the region; none where it has no region
 abbrev pub fault_in_node : PoolOf Node → Painter → Content → Object → Node → Option (ℕ × SetFault)
 fault_in_node pool painter content object (node.Entry entry) = None
 fault_in_node pool painter content object (node.Region region) = fault_in_region_node pool painter content object region
@@ -76,6 +78,7 @@ fault_in_node pool painter content object (node.Listing kept) = None
 fault_in_node pool painter content object (node.Clut clut) = None
 fault_in_node pool painter content object (node.Colour place) = None
 
+-- the fault of the object in the region that the node of a pair has, with the id of the region
 abbrev pub fault_in_pair : PoolOf Node → Painter → Content → Object → NodeId × Node
     → Option (ℕ × SetFault)
 fault_in_pair pool painter content object pair = fault_in_node pool painter content object pair.1

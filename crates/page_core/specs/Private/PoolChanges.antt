@@ -16,11 +16,12 @@ pub record HasListings (l : ℕ) (listings : List Listing) (old new : PoolOf Nod
   pub kinds : AreKind listing_in (list_of old l) → AreKind listing_in (list_of new l)
   pub free : new.free + length listings ≡ old.free
 
--- the node, where there is one, has another item
+-- the node has that item, and nothing else is changed; no node was in the lists twice
 pub record IsItemSet (item : Node) (old new : PoolOf Node) (node : NodeId) : Type 0 where
   pub set : new ≡ replaced node item old
   pub distinct : NoneTwice old
   pub count : node_count new ≡ node_count old
 
+-- the node, where there is one, has that item; where there is none, the pool is as it was
 abbrev pub IsRegionSet : Option NodeId → Node → PoolOf Node → PoolOf Node → Type 0
 IsRegionSet node item old new = MatchOption node (new ≡ old) (IsItemSet item old new)

@@ -35,13 +35,15 @@ with_regions regions free composition = record composition { regions = regions; 
 abbrev pub changed_at : ℕ → (KeptRegion → KeptRegion) → KeptRegion → KeptRegion
 changed_at id change kept = if kept.head.region == id then change kept else kept
 
--- a region without its listings, with another head, and with more listings
+-- a region without its listings
 abbrev pub bare : KeptRegion → KeptRegion
 bare kept = record { head = kept.head; slot = kept.slot; listings = [] }
 
+-- a region with that head, in the slot that it has
 abbrev pub headed : RegionHead → KeptRegion → KeptRegion
 headed head kept = record { head = head; slot = kept.slot; listings = kept.listings }
 
+-- a region with these listings behind its own, whose objects were not painted yet
 abbrev pub listing_more : List Listing → KeptRegion → KeptRegion
 listing_more listings kept =
     record { head = kept.head; slot = kept.slot; listings = kept.listings ++ map fresh listings }
@@ -88,6 +90,7 @@ pub record IsValidHead (head : RegionHead) : Type 0 where
   pub width : 1 ≤ head.width
   pub height : 1 ≤ head.height
 
+-- the numbers of a segment are valid where it is a region segment; of any other one nothing is said
 abbrev pub IsValidValue : SegmentValue → Type 0
 IsValidValue (of_page value) = Unit {0}
 IsValidValue (of_region value) = IsValidHead value.head
@@ -153,6 +156,7 @@ abbrev pub renews : RegionHead → Content → Bool
 renews head content =
     option_map_or (λ (region : Region). is_new region.head (Some head)) (region_named head.region content) false
 
+-- some region segment of a set takes the place of that head
 abbrev pub is_renewed : List Content → RegionHead → Bool
 is_renewed set head = list_any (renews head) set
 
@@ -160,6 +164,7 @@ is_renewed set head = list_any (renews head) set
 abbrev pub bare_where : Bool → KeptRegion → KeptRegion
 bare_where renewed kept = if renewed then bare kept else kept
 
+-- a region that is kept, without its listings where a segment of a set takes the place of its head
 abbrev pub bare_by : List Content → KeptRegion → KeptRegion
 bare_by set kept = bare_where (is_renewed set kept.head) kept
 
@@ -205,17 +210,20 @@ pub record AwaitRegions (taken : Taken) (left : List Content) (composition : Com
       → y < kept.head.height →
       code_of (region_at store kept.slot) x y ≡ pixel_of taken id x y
 
--- how many nodes the regions of a set need behind earlier segments: one for each that is new, and one for each listing
+-- how many nodes a region segment needs, by whether it is taken and by the last taken one of its region: one where the
+-- region is new, and one for each listing
 abbrev pub nodes_needed_by : Bool → Option Region → Region → ℕ
 nodes_needed_by false known region = 0
 nodes_needed_by true None region = 1 + length region.listings
 nodes_needed_by true (Some last) region = length region.listings
 
+-- how many nodes a segment, by the region that it has, needs behind earlier segments, the latest first
 abbrev pub nodes_needed_for : List Content → Content → Option Region → ℕ
 nodes_needed_for earlier content None = 0
 nodes_needed_for earlier content (Some region) =
     nodes_needed_by (is_taken earlier content.value) (taken_region region.head.region (taken_of earlier)) region
 
+-- how many nodes the regions of a set that are left need behind earlier segments, the latest first
 abbrev pub nodes_needed : List Content → List Content → ℕ
 nodes_needed earlier [] = 0
 nodes_needed earlier (content ∷ left) =

@@ -39,6 +39,7 @@ abbrev pub IsApart : List Content → Content → Type 0
 IsApart before content =
     (region : Region) → region_of content ≡ Some region → defines region.head.region before ≡ false
 
+-- no region among contents of a set has the id of one that stands before it, in these or in earlier ones of the set
 abbrev pub AreApart : List Content → List Content → Type 0
 AreApart before [] = Unit {0}
 AreApart before (content ∷ contents) = IsApart before content × AreApart (content ∷ before) contents
@@ -51,6 +52,7 @@ HasHeads segments composition = (id : ℕ) →
     option_map (λ (kept : KeptRegion). kept.head) (region_in composition id)
     ≡ option_map head_of (taken_region id (taken_of segments))
 
+-- the head of the region of that id, where the epoch has one
 abbrev pub head_in : Composition → ℕ → Option RegionHead
 head_in composition id = option_map (λ (kept : KeptRegion). kept.head) (region_in composition id)
 
@@ -69,6 +71,7 @@ abbrev pub fault_behind_head : RegionHead → Option RegionHead → Option SetFa
 fault_behind_head head None = None
 fault_behind_head head (Some last) = if has_same_shape head last then None else Some (RegionChanged head.region)
 
+-- the fault of a head of another version than the known one: it has another size or depth
 abbrev pub fault_of_head : RegionHead → Option RegionHead → Option SetFault
 fault_of_head head last = if is_new head last then fault_behind_head head last else None
 

@@ -36,10 +36,11 @@ Sees (Ok segment) before next seen =
     × (fault_of_segment before next ≡ None) × AreFlags (content ∷ contents_in before) seen
 Sees (Err fault) before next seen = fault_of_segment before next ≡ Some fault
 
--- the page so far, and else that of a segment; the display likewise
+-- the page so far, and else that of a segment
 abbrev pub page_with : Option Page → SegmentValue → Option Page
 page_with page value = option_or page (page_in value)
 
+-- the display so far, and else that of a segment
 abbrev pub display_with : Option Display → SegmentValue → Option Display
 display_with display value = option_or display (display_in value)
 

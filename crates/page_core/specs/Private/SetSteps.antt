@@ -10,14 +10,15 @@ use Rattle.page_core.specs.Memory.{Memory, HoldsSegments}
 use Rattle.page_core.specs.Private.RegionTests.{before_regions}
 use Rattle.page_core.specs.Private.Walks.{is_region, is_clut}
 
--- the segments of an epoch, and those of a set before its CLUTs, the latest first; and those before its objects
+-- the segments of an epoch, and those of a set before its CLUTs, the latest first
 abbrev pub before_cluts : List Content → List Content → List Content
 before_cluts older set = reverse (filter is_region set) ++ before_regions older set
 
+-- the segments of an epoch, and those of a set before its objects, the latest first
 abbrev pub before_objects : List Content → List Content → List Content
 before_objects older set = reverse (filter is_clut set) ++ before_cluts older set
 
--- nothing but the listings of regions and the codes of pixels may have changed
+-- what painting of objects leaves as it was: all but the regions with their listings, and the codes of pixels
 pub record KeepsButObjects (old new : Memory) : Type 0 where
   pub profile : new.profile ≡ old.profile
   pub page : new.page ≡ old.page
@@ -39,7 +40,8 @@ pub record KeepsButObjects (old new : Memory) : Type 0 where
 abbrev pub with_composition : Composition → Memory → Memory
 with_composition composition memory = record memory { composition = composition }
 
--- nothing but the page's entries and their nodes, its time-out, and that an epoch is known, may have changed
+-- what a page composition leaves as it was: all but the composition, which gets the page's entries, the time-out, and
+-- whether an epoch is known
 pub record KeepsButPage (old new : Memory) : Type 0 where
   pub profile : new.profile ≡ old.profile
   pub page : new.page ≡ old.page

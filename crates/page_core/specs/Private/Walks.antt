@@ -19,15 +19,19 @@ is_of kind (of_display value) = DISPLAY_DEFINITION == kind
 is_of kind end_of_set = END_OF_DISPLAY_SET == kind
 is_of kind passed_over = false
 
+-- a content is of that segment type
 abbrev pub is_content_of : ℕ → Content → Bool
 is_content_of kind content = is_of kind content.value
 
+-- a content is of a region composition segment
 abbrev pub is_region : Content → Bool
 is_region content = is_some (region_of content)
 
+-- a content is of a CLUT definition segment
 abbrev pub is_clut : Content → Bool
 is_clut content = is_some (clut_of content)
 
+-- a content is of an object data segment
 abbrev pub is_object : Content → Bool
 is_object content = is_some (object_of content)
 

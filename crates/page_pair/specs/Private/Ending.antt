@@ -39,7 +39,7 @@ pub record IsSent (pairing : Pairing) (first second : Script)
   pub first_suited : AreSuited (first_sent pairing first paired.one paired.table)
   pub second_suited : AreSuited (second_sent pairing second paired.two paired.table)
 
--- the sink failed, and has a prefix of the packets
+-- the sink has a prefix of the packets of the two scripts behind what it had before
 abbrev pub IsFront : Pairing → Script → Script → Received → Received → Type 0
 IsFront pairing first second before now =
     (packets : List ℕ) × IsPairedTo pairing first second packets

@@ -18,13 +18,14 @@ IsReadStop before now (Refused fault) = IsScriptRefused false before now before 
 IsReadStop before now Unread = HasRisen before.faults now.faults
 IsReadStop before now TooLong = HasRisenPast text_limit before.given now.given
 
--- the status where the first script was not read, and where the second one was not
+-- the status where the first script was not read
 abbrev pub first_status : ReadStop → ToolStatus PairFault
 first_status Memory = tool.Memory
 first_status (Refused fault) = tool.Refused (pair.FirstScript fault)
 first_status Unread = tool.ReadFault which.First
 first_status TooLong = tool.InputTooLong which.First
 
+-- the status where the second script was not read
 abbrev pub second_status : ReadStop → ToolStatus PairFault
 second_status Memory = tool.Memory
 second_status (Refused fault) = tool.Refused (pair.SecondScript fault)

@@ -64,19 +64,22 @@ abbrev pub IsSlotStop : List PlannedSet → List WriteLoad → Pace → SlotStop
 IsSlotStop sets loads pace slot.Memory = Unit {0}
 IsSlotStop sets loads pace (slot.Refused row fault) = IsScheduleCause loads pace fault × IsRowOf sets fault row
 
--- the reasons as those of both scripts
+-- why the first script has no plan, as a reason why both scripts are not sent
 abbrev pub first_refusal : PlanStop → PairStop
 first_refusal plan.Memory = stop.Memory
 first_refusal (plan.Refused fault) = stop.Refused (pair.FirstPlan fault)
 
+-- why the second script has no plan, as a reason why both scripts are not sent
 abbrev pub second_refusal : PlanStop → PairStop
 second_refusal plan.Memory = stop.Memory
 second_refusal (plan.Refused fault) = stop.Refused (pair.SecondPlan fault)
 
+-- why the sets of both have no PES packets, as a reason why both scripts are not sent
 abbrev pub units_refusal : UnitsStop → PairStop
 units_refusal units.Memory = stop.Memory
 units_refusal (units.TooLong set size) = stop.Refused (pair.TooLong set size)
 
+-- why the sets of both have no slots, as a reason why both scripts are not sent
 abbrev pub slots_refusal : SlotStop → PairStop
 slots_refusal slot.Memory = stop.Memory
 slots_refusal (slot.Refused row fault) = stop.Refused (pair.Schedule row fault)

@@ -52,6 +52,8 @@ abbrev pub stop_at : ℕ → SetStop → UnitsStop
 stop_at place set_stop.Memory = Memory
 stop_at place (set_stop.TooLong size) = TooLong place size
 
+-- why the sets at this place are not written: their segments have no room in one PES packet, which would have that
+-- size. Memory may want at any time
 abbrev pub IsStopAt : TwoPages → Script → Script → PlannedSet → PlannedSet → ℕ → UnitsStop → Type 0
 IsStopAt pages first second one two place Memory = Unit {0}
 IsStopAt pages first second one two place (TooLong set size) =
@@ -83,6 +85,7 @@ pub record IsPairUnit (pages : TwoPages) (first second : Script) (one two : Plan
 
 -- ---- the sets at all places
 
+-- what sending the two sets of one place takes, and their PES packet
 abbrev pub IsUnitAt : TwoPages → Script → Script → PlannedSet × PlannedSet → PairUnit → Type 0
 IsUnitAt pages first second pair unit = IsPairUnit pages first second pair.0 pair.1 unit
 

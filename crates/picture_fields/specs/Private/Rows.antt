@@ -3,11 +3,12 @@ use Rattle.std.specs.Prelude.{[], ◌∷◌, ◌*◌, ◌+◌, ℕ, ◌<◌, ◌
 use Rattle.sub_base.specs.declared.depth.Depth.{Depth}
 use Rattle.sub_base.specs.Depth.{code_count}
 
--- a row of codes of a depth, as long as a row can be
+-- a row of codes of a depth, no longer than a row can be
 pub record IsRowOf (depth : Depth) (row : List ℕ) : Type 0 where
   pub short : length row ≤ 65535
   pub each : All (λ code. code < code_count depth) row
 
+-- rows of codes of a depth, none longer than a row can be
 abbrev pub AreRows : Depth → List (List ℕ) → Type 0
 AreRows depth rows = All (IsRowOf depth) rows
 

@@ -11,6 +11,7 @@ pub record PageListing : Type 0 where
   pub entries : List PageTally
   pub more : Bool
 
+-- the pages that the entries are of, in their order
 abbrev pub pages_of : List PageTally → List ℕ
 pages_of entries = map (λ entry. entry.page) entries
 

@@ -8,24 +8,30 @@ use Rattle.pid_text.specs.declared.pid_tally.PidTally.{PidTally}
 use Rattle.pid_text.specs.declared.watch.Slot.{Slot}
 use Rattle.pid_text.specs.declared.watch.Watch.{Watch}
 
+-- the line of a page by its entry
 abbrev pub entry_text : PageTally → List ℕ
 entry_text entry = page_line entry.page entry.compositions entry.ancillaries
 
+-- the lines of the pages that are listed, and the line that says that there are more, where there are
 abbrev pub listing_text : PageListing → List ℕ
 listing_text listing = flat_map entry_text listing.entries ++ more_where listing.more
 
+-- the text of a PID by what was counted of it: none where it has no PES packet of subtitles
 abbrev pub tally_text : ℕ → PidTally → List ℕ
 tally_text pid tally =
     if tally.units == 0 then []
     else units_part pid tally.units ++ times_part tally.first tally.last ++ listing_text tally.pages
 
+-- the text of a PID that is watched; of one that is not there is none
 abbrev pub watch_text : ℕ → Option Watch → List ℕ
 watch_text pid None = []
 watch_text pid (Some watch) = tally_text pid watch.tally
 
+-- the text of a PID by what is kept of it
 abbrev pub slot_text : ℕ → Slot → List ℕ
 slot_text pid slot = watch_text pid slot.watch
 
+-- what is kept of a PID that is not watched
 abbrev pub no_slot : Slot
 no_slot = record { watch = None }
 

@@ -30,6 +30,7 @@ abbrev pub IsWatching : ℕ → List (List ℕ) → Option Watch → Type 0
 IsWatching pid packets None = watched pid packets ≡ []
 IsWatching pid packets (Some watch) = (0 < length (watched pid packets)) × IsWatch pid (watched pid packets) watch
 
+-- what is kept of a PID of a stream with these packets: that it is watched, or that no packet has come for that
 abbrev pub IsSlot : ℕ → List (List ℕ) → Slot → Type 0
 IsSlot pid packets slot = IsWatching pid packets slot.watch
 

@@ -7,6 +7,7 @@ use Rattle.pixel_codes.specs.declared.cursor.Step.{Step}
 use Rattle.pixel_codes.specs.declared.cursor.Step.TheVariants.{Drawn, Moved, Done}
 use Rattle.pixel_codes.specs.Private.Walk.{Pen, runs_left}
 
+-- where the pen of a walk stands, and the tables that hold there
 abbrev pub pen_of : Cursor → Pen
 pen_of cursor = record { x = cursor.x; line = cursor.line; maps = cursor.tables }
 
@@ -19,6 +20,7 @@ abbrev pub bits_left : Option Depth → List ℕ → ℕ → ℕ
 bits_left None rest place = 8 * length rest
 bits_left (Some depth) rest place = 8 * length rest - place
 
+-- what a walk can still take, in bits, from the place at which it stands
 abbrev pub to_go : Cursor → ℕ
 to_go cursor = bits_left cursor.string cursor.rest.now cursor.place
 

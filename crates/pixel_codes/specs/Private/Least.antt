@@ -4,7 +4,7 @@ use Rattle.sub_base.specs.declared.depth.Depth.{Depth}
 use Rattle.sub_base.specs.declared.depth.Depth.TheVariants.{Two, Four, Eight}
 use Rattle.stream_syntax.specs.PixelCodes.{Code, pixel, one_zero, two_zeros, zeros, short_run, middle_run, long_run, pixel_count}
 
--- the least bits of fewer pixels than the longest code gives, of a code that is not 0 and of code 0
+-- the least bits in 2 bit codes of fewer pixels than the longest code gives, of a code that is not 0
 unfoldable pub two_some : ℕ → ℕ
 two_some rest =
     if rest == 0 then 0
@@ -14,39 +14,46 @@ two_some rest =
     else (if nat_lt rest 11 then 8
     else (if nat_lt rest 12 then 10 else (if nat_lt rest 28 then 12 else (if nat_lt rest 29 then 14 else 16)))))))
 
+-- the least bits in 2 bit codes of fewer pixels than the longest code gives, of code 0
 unfoldable pub two_none : ℕ → ℕ
 two_none rest =
     if rest == 0 then 0
     else (if rest == 1 then 4
     else (if rest == 2 then 6 else (if nat_lt rest 11 then 8 else (if nat_lt rest 28 then 12 else 16))))
 
+-- the least bits in 4 bit codes of fewer pixels than the longest code gives, of a code that is not 0
 unfoldable pub four_some : ℕ → ℕ
 four_some rest =
     if rest == 0 then 0
     else (if rest == 1 then 4
     else (if rest == 2 then 8 else (if nat_lt rest 8 then 12 else (if nat_lt rest 25 then 16 else 20))))
 
+-- the least bits in 4 bit codes of fewer pixels than the longest code gives, of code 0
 unfoldable pub four_none : ℕ → ℕ
 four_none rest = if rest == 0 then 0 else (if nat_lt rest 10 then 8 else (if nat_lt rest 25 then 16 else 20))
 
+-- the least bits in 8 bit codes of fewer pixels than the longest code gives, of a code that is not 0
 unfoldable pub eight_some : ℕ → ℕ
 eight_some rest = if rest == 0 then 0 else (if rest == 1 then 8 else (if rest == 2 then 16 else 24))
 
+-- the least bits in 8 bit codes of fewer pixels than the longest code gives, of code 0
 unfoldable pub eight_none : ℕ → ℕ
 eight_none rest = if rest == 0 then 0 else 16
 
--- the pixels and the bits of the longest code
+-- how many pixels the longest code of a depth gives
 abbrev pub longest : Depth → ℕ
 longest Two = 284
 longest Four = 280
 longest Eight = 127
 
+-- how many bits the longest code of a depth has, for pixels of that code
 abbrev pub longest_bits : Depth → ℕ → ℕ
 longest_bits Two code = 16
 longest_bits Four code = 20
 longest_bits Eight zero = 16
 longest_bits Eight (suc code) = 24
 
+-- the least bits at a depth of so many pixels of that code, fewer than the longest code gives
 abbrev pub rest_bits : Depth → ℕ → ℕ → ℕ
 rest_bits Two zero rest = two_none rest
 rest_bits Two (suc code) rest = two_some rest
@@ -60,12 +67,13 @@ abbrev pub table_bits : Depth → ℕ → ℕ → ℕ
 table_bits depth code count =
     longest_bits depth code * (count / longest depth) + rest_bits depth code (count % longest depth)
 
--- the first code of a run of fewer pixels than a middle run gives
+-- the first 2 bit code of a run of fewer pixels than a middle run gives
 abbrev pub two_few : ℕ → ℕ → Code
 two_few zero count =
     if nat_lt 2 count then short_run (min (count - 3) 7) 0 else (if count == 2 then two_zeros else one_zero)
 two_few (suc code) count = if nat_lt 3 count then short_run (min (count - 3) 7) (suc code) else pixel (suc code)
 
+-- the first 4 bit code of a run of fewer pixels than a long run gives
 abbrev pub four_few : ℕ → ℕ → Code
 four_few zero count =
     if nat_lt 9 count then middle_run (count - 9) 0
@@ -91,5 +99,6 @@ chosen_within (suc steps) depth code (suc count) =
     first_code depth code (suc count)
     ∷ chosen_within steps depth code (suc count - pixel_count depth (first_code depth code (suc count)))
 
+-- the codes that the writer chooses for a run of so many pixels of a code, in order
 abbrev pub chosen : Depth → ℕ → ℕ → List Code
 chosen depth code count = chosen_within count depth code count

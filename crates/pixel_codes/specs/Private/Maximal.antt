@@ -10,7 +10,7 @@ is_code first code = code == first
 abbrev pub differs : ℕ → ℕ → Bool
 differs first code = not (code == first)
 
--- the next pixel has another code
+-- the next pixel has another code; asked of pixels that have a next one
 abbrev pub ends_at : List ℕ → ℕ → Bool
 ends_at codes place = not (slice_index codes place == slice_index codes (place + 1))
 
@@ -18,7 +18,7 @@ ends_at codes place = not (slice_index codes place == slice_index codes (place +
 abbrev pub IsOneRun : List ℕ → ℕ → ℕ → Type 0
 IsOneRun codes from to = (place : ℕ) → from ≤ place → place < to → ends_at codes place ≡ false
 
--- the run that begins at a place goes on at another, or the row ends there
+-- the run that begins at the place `from` goes on at the place `to`, or the row ends where it would begin
 pub record GoesOn (codes : List ℕ) (from to : ℕ) : Type 0 where
   pub ordered : from ≤ to
   pub within : to ≤ length codes

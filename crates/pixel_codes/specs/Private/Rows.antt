@@ -4,6 +4,7 @@ use Rattle.sub_base.specs.declared.depth.Depth.{Depth}
 use Rattle.stream_syntax.specs.PixelCodes.{Code, Span, spelled}
 use Rattle.pixel_codes.specs.Private.Least.{chosen}
 
+-- the run of so many pixels of that code
 abbrev pub span_of : ℕ → ℕ → Span
 span_of count code = record { count = count; code = code }
 
@@ -18,6 +19,7 @@ unfoldable pub runs_of : List ℕ → List Span
 runs_of [] = []
 runs_of (code ∷ codes) = extended code (runs_of codes)
 
+-- the codes that the writer chooses for runs, one run after another
 unfoldable pub codes_of : Depth → List Span → List Code
 codes_of depth spans = flat_map (λ span. chosen depth span.code span.count) spans
 

@@ -30,6 +30,7 @@ pub record Pen : Type 0 where
   pub line : ℕ
   pub maps : Maps
 
+-- the pen at the first pixel of a block, with the tables that hold before any is sent
 abbrev pub start_pen : Pen
 start_pen = record { x = 0; line = 0; maps = default_maps }
 
@@ -50,16 +51,21 @@ run_of region depth pen count code =
       code = mapped_by depth region pen.maps code;
     } ∷ []
 
+-- what a walk gives from a code of a string or its end on; `next` is the place behind that in the string's bits, and
+-- `onward` gives what follows
 abbrev pub runs_after_token : Onward → Depth → Depth → List ℕ → Pen → Token → ℕ → List Run
 runs_after_token onward region depth rest pen End next = onward None (drop ((next + 7) / 8) rest) 0 pen
 runs_after_token onward region depth rest pen (Pixels count code) next =
     run_of region depth pen count code
     ++ onward (Some depth) rest next (record { x = pen.x + count; line = pen.line; maps = pen.maps })
 
+-- what a walk gives from what it found in a string on, with the place behind that: a code, the end, or, where the
+-- string is cut, nothing
 abbrev pub runs_at_token : Onward → Depth → Depth → List ℕ → Pen → Option (Token × ℕ) → List Run
 runs_at_token onward region depth rest pen None = []
 runs_at_token onward region depth rest pen (Some found) = runs_after_token onward region depth rest pen found.0 found.1
 
+-- what a walk gives behind the type byte of a sub-block; nothing where that is unknown, or a table is cut
 abbrev pub runs_after_head : Onward → List ℕ → Pen → Option Head → List Run
 runs_after_head onward body pen None = []
 runs_after_head onward body pen (Some (PixelString depth)) = onward (Some depth) body 0 pen
@@ -70,6 +76,7 @@ runs_after_head onward body pen (Some (Table kind)) =
 runs_after_head onward body pen (Some LineEnd) =
     onward None body 0 (record { x = 0; line = pen.line + 1; maps = pen.maps })
 
+-- what a walk gives from the first byte of a sub-block on; nothing where no byte is left
 abbrev pub runs_at_part : Onward → List ℕ → Pen → List Run
 runs_at_part onward [] pen = []
 runs_at_part onward (first ∷ body) pen = runs_after_head onward body pen (head_of first)

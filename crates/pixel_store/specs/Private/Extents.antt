@@ -12,6 +12,7 @@ stride_of extent = packed_length extent.depth extent.width
 abbrev pub room_of : Extent → ℕ
 room_of extent = stride_of extent * codes_in_byte extent.depth
 
+-- how many bytes all rows of the region take
 abbrev pub size_of : Extent → ℕ
 size_of extent = pixel_bytes extent.width extent.height extent.depth
 

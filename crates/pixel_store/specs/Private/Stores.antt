@@ -16,13 +16,16 @@ region_in bytes extent =
           (extent.offset + size_of extent);
     }
 
+-- the store of these bytes, of which so many are taken, and of the regions that these extents have in them
 abbrev pub regions_in : List ℕ → ℕ → List Extent → Regions
 regions_in bytes used extents =
     record { size = length bytes; regions = map (region_in bytes) extents; free = length bytes - used }
 
+-- what stands for no extent
 abbrev pub no_extent : Extent
 no_extent = record { offset = 0; width = 0; height = 0; depth = Two }
 
+-- the extent of the region of a slot
 abbrev pub extent_at : List Extent → ℕ → Extent
 extent_at extents slot = slice_index_or extents slot no_extent
 

@@ -30,6 +30,7 @@ status_by packet packet_faults.Scrambled = tool.Memory
 status_by packet packet_faults.ReservedControl = tool.Memory
 status_by packet packet_faults.BadAdaptation = tool.Memory
 
+-- how it ends where the walk has refused a packet and the output is written
 abbrev pub status_of_refused : Refused → ToolStatus TakeFault
 status_of_refused refused = status_by refused.packet refused.fault
 

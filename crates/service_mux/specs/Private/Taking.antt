@@ -41,6 +41,7 @@ pub record IsBehindMap (service pid : ℕ) (packets : List (List ℕ)) (bytes : 
   pub found : subtitles_of service packets ≡ Some (pid, behind)
   pub taken : bytes ≡ concat (filter (of_pid pid) behind)
 
+-- what is true in each phase of the search for a service, once these packets came and these bytes were put out
 abbrev pub StandsIn : Phase → ℕ → TableReading → List (List ℕ) → List ℕ → Type 0
 StandsIn phase.BeforeTable service reader packets bytes = IsBeforeTable service reader packets bytes
 StandsIn phase.BehindTable service reader packets bytes = IsBehindTable service reader packets bytes

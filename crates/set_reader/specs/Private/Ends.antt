@@ -13,10 +13,11 @@ use Rattle.display_sets.specs.declared.hand.UnitEnd.{UnitEnd}
 abbrev pub lost_where : Bool → List (Delivery (List ℕ))
 lost_where is_lost = if is_lost then lost ∷ [] else []
 
--- the unit is dropped; it makes the set in hand ready
+-- a packet ended a unit, and it was dropped
 abbrev pub end_drops : Option UnitEnd → Bool
 end_drops found = option_map_or drops found false
 
+-- a packet ended a unit, and it made the set in hand ready before it
 abbrev pub end_parts : Option UnitEnd → Bool
 end_parts found = option_map_or parts found false
 

@@ -138,15 +138,15 @@ IsValidShown value = IsValid value × HasShownColours value
 writable_if : (values : List SegmentValue)
     → list_all (λ value. list_all is_fit (written_fields 1 value)) values ≡ true
     → AllByRecursion IsValidShown values → All (IsWritable 1) values
-writable_if [] fit right = All-nil (IsWritable 1)
-writable_if (value ∷ values) fit right =
+writable_if [] fit valid = All-nil (IsWritable 1)
+writable_if (value ∷ values) fit valid =
     All-cons (IsWritable 1) value values
     (record {
       fits = fits_if (written_fields 1 value) (grind (arith, nat_tests, fit));
-      right = right.0.0;
-      shown = right.0.1;
+      valid = valid.0.0;
+      shown = valid.0.1;
     })
-    (writable_if values (grind (arith, nat_tests, fit)) right.1)
+    (writable_if values (grind (arith, nat_tests, fit)) valid.1)
 
 abbrev values_of : List Content → List SegmentValue
 values_of contents = map (λ (content : Content). content.value) contents

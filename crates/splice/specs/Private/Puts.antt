@@ -7,6 +7,8 @@ use Rattle.splice.specs.Private.Sendings.{IsSendingOf}
 use Rattle.splice.specs.declared.joined.Joined.{Joined}
 use Rattle.splice.specs.declared.prepared.Placed.{Placed}
 
+-- the set with so many ticks of painting is kept behind those that were kept, where there is one to be sent; and where
+-- there is none, these stay as they are
 abbrev pub IsPut : Option Placed → ℕ → Joined → Joined → Type 0
 IsPut None painted old new = new ≡ old
 IsPut (Some one) painted old new =

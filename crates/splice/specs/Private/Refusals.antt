@@ -56,6 +56,7 @@ fault_of_distance cut last =
     else if nat_le TOO_FAR (cut - last) then Some (fault.CutTooFar last)
     else None
 
+-- the cut has its distance from the first stream's last set before it, where there is one; with none nothing is wrong
 abbrev pub fault_of_last : ℕ → Option ℕ → Option SpliceFault
 fault_of_last cut None = None
 fault_of_last cut (Some last) = fault_of_distance cut last

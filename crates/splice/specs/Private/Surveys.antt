@@ -30,11 +30,13 @@ use Rattle.splice.specs.declared.prepared.Prepared.{Prepared}
 
 -- ---- what is found
 
+-- nothing keeps the stream from being joined so far
 abbrev pub is_good : Finding → Bool
 is_good Good = true
 is_good (Unshown set) = false
 is_good (Lost packet) = false
 
+-- the set is shown, by what became of it in the receiver
 abbrev pub is_shown : SetEnd → Bool
 is_shown Shown = true
 is_shown Waiting = false
@@ -63,6 +65,7 @@ finding_lost packet Good = Lost packet
 finding_lost packet (Unshown set) = Lost packet
 finding_lost packet (Lost first) = Lost first
 
+-- what is found of a stream with a loss more, at the packet of that number
 abbrev pub lost_after : ℕ → Found → Found
 lost_after packet found = record {
   finding = finding_lost packet found.finding;
@@ -183,6 +186,8 @@ pub record IsGoodStream (made : Reception) (part : Part) (earlier : List RawSet)
   pub only : BeginsAnew made packets → found.anew ≡ true
   pub joined_are : IsJoinedOf (earlier ++ placed part (kept_sets made packets)) joined
 
+-- what was found of a stream that has ended is so: it can be joined; or the set of that number is the first that has to
+-- be shown and is not; or the packet of that number is the first with which something is lost
 abbrev pub IsSurveyed : Reception → Part → List RawSet → List (List ℕ) → Found → Joined → Finding → Type 0
 IsSurveyed made part earlier packets found joined Good = IsGoodStream made part earlier packets found joined
 IsSurveyed made part earlier packets found joined (Unshown set) =

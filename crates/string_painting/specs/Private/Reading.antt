@@ -40,6 +40,7 @@ two_far_at bytes place = do
       then two_middle_at bytes (place + 1)
       else two_long_at bytes (place + 1)))
 
+-- a code of a 2-bit/pixel_code_string at a place, and the place after it, if the bytes have all of it
 unfoldable pub two_at : List ℕ → ℕ → Option (Token × ℕ)
 two_at bytes place = do
   first ← field_at Two bytes place
@@ -59,6 +60,7 @@ four_far_at bytes place form =
     else (field_at Four bytes (place + 2) >>= λ code. Some
     (Pixels (first * 16 + second + 25) code, place + 3)))))
 
+-- a code of a 4-bit/pixel_code_string at a place, and the place after it, if the bytes have all of it
 unfoldable pub four_at : List ℕ → ℕ → Option (Token × ℕ)
 four_at bytes place = do
   first ← field_at Four bytes place
@@ -68,6 +70,7 @@ four_at bytes place = do
       four_far_at bytes (place + 2) (second - 8)))
       else Some (Pixels 1 first, place + 1)
 
+-- a code of an 8-bit/pixel_code_string at a place, and the place after it, if the bytes have all of it
 unfoldable pub eight_at : List ℕ → ℕ → Option (Token × ℕ)
 eight_at bytes place = do
   first ← field_at Eight bytes place

@@ -15,6 +15,8 @@ abbrev pub over : ℕ → ℕ → Event → Event
 over size need event.Followed = event.TooLong need size
 over size need other = other
 
+-- what is answered at a packet, by its event without regard to the room and by what becomes of its unit: the event, and
+-- how many bytes of a unit are handed out
 abbrev pub answered : ℕ → Event → Fate → Step
 answered size told fate.Waits = record { event = told; unit = None }
 answered size told (fate.Whole count) = record { event = told; unit = Some count }

@@ -66,7 +66,7 @@ loop-one-preserved g c =
     c.loop-one.one-index c.args.held.now d c.loop-one-test.true c.loop-one.invariant.left.2 in
     let tick_is : c.tick_between-tick.result ≡ tick_in run one.behind =
     c.tick_between-tick.ensures.tick ∙ ap (λ (n : ℕ). tick_between run.last n run.next) c.from.ensures in
-    let right : packet_fault (reception c.loop-one.sets.receiving).pid one.packet ≡ None =
+    let faultless : packet_fault (reception c.loop-one.sets.receiving).pid one.packet ≡ None =
     subst (λ (made : Reception). packet_fault made.pid one.packet ≡ None) (sym c.loop-one.invariant.same) first.2 in
     record {
       same = c.take-taken.ensures.same ∙ c.loop-one.invariant.same;
@@ -97,7 +97,7 @@ loop-one-preserved g c =
           c.args.buffer.now c.loop-one.buffer c.take-taken.new.buffer run (take c.loop-one.one-index c.args.held.now)
           one c.loop-one.invariant.told
           (λ slot_of place at. taken_right c.take-taken.result
-          (packet_fault (reception c.loop-one.sets.receiving).pid one.packet) c.take-taken.ensures.fault right
+          (packet_fault (reception c.loop-one.sets.receiving).pid one.packet) c.take-taken.ensures.fault faultless
           c.take-taken.ensures.told slot_of place (at ∙ sym tick_is))
           c.loop-one.invariant.same (c.take-taken.ensures.same ∙ c.loop-one.invariant.same));
     }

@@ -15,6 +15,6 @@ returns-clause-matches c segment reading framed is_reading =
     matches_result segment c.args.frame.now.whole _ reading (c.segment.ensures.every_segment segment framed)
     (c.segment.ensures.every_fault segment framed) is_reading
 
-pub returns-clause-right : goal.returns-clause-right
-returns-clause-right c =
+pub returns-clause-valid : goal.returns-clause-valid
+returns-clause-valid c =
     right_result c.requires.0 c.args.frame.now.whole _ (c.segment.ensures.segment c.requires.0 c.requires.1)

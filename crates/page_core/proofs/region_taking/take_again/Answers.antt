@@ -28,4 +28,4 @@ returns-then-count-free-clause-stored c =
     region.listings c.renew.ensures.composition
     (subst (λ slot. KeepsOthers slot c.args.store.now c.renew.new.store) c.requires.known.2.slot
     c.renew.ensures.filled.others) c.requires.stored c.requires.known.1 same
-    (omega (arith, c.if-count-free.true, c.count.ensures, c.free.ensures)) c.requires.right
+    (omega (arith, c.if-count-free.true, c.count.ensures, c.free.ensures)) c.requires.valid

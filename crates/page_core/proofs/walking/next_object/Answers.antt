@@ -12,11 +12,11 @@ returns-in-Some-clause-next c set are =
     let is = object_is_segment set c.in_ok-front.front n in
     let body = known_body n.segment c.in_ok-front.front.frame.body.now is.0 is.1 n.framed.body_is in
     next_object_is set c.in_ok-front.front (object_value c.in-Some.segment) n
-    (ap of_object (c.in-Some.ensures.right body.0 ∙ body.1) ∙ sym is.2)
+    (ap of_object (c.in-Some.ensures.valid body.0 ∙ body.1) ∙ sym is.2)
 
 pub returns-in-None-clause-next : goal.returns-in-None-clause-next
 returns-in-None-clause-next c set are =
     let n = c.in_ok-front.ensures.next set are in
     let is = object_is_segment set c.in_ok-front.front n in
-    absurd (c.in-None.ensures.right
+    absurd (c.in-None.ensures.valid
     (known_body n.segment c.in_ok-front.front.frame.body.now is.0 is.1 n.framed.body_is).0)

@@ -16,9 +16,9 @@ returns-else-is_of_pid-clause-told g c =
     c.args.packet.now c.begin.ensures.begun
     (record {
       bytes = bytes_of c.args.packet.now c.fits-packet;
-      right =
+      faultless =
           subst (λ (made : Reception). packet_fault made.pid c.args.packet.now ≡ None) (sym c.begin.ensures.asked)
-          c.requires.right;
+          c.requires.faultless;
       other = ap (λ (pid : ℕ). pid_of c.args.packet.now == pid) (sym pid_is) ∙ sym c.is_of_pid.ensures
           ∙ c.if-is_of_pid.false;
     })

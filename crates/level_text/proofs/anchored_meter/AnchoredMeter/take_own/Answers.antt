@@ -23,8 +23,8 @@ returns-in-Some-clause-told g c =
     (asked_where asked c.self.inside.sets c.in-Some.sets c.self.invariant.sets there).pid
     ∙ ap (λ (one : Anchoring). one.asked.pid) c.self.view_is
     ∙ ap (λ (one : Reception). one.pid) c.begin.ensures.asked in
-    let right : packet_fault (reception c.in-Some.sets.receiving).pid c.args.packet.now ≡ None =
-    subst (λ (pid : ℕ). packet_fault pid c.args.packet.now ≡ None) (sym own_pid) c.requires.right in
+    let faultless : packet_fault (reception c.in-Some.sets.receiving).pid c.args.packet.now ≡ None =
+    subst (λ (pid : ℕ). packet_fault pid c.args.packet.now ≡ None) (sym own_pid) c.requires.faultless in
     let timed =
     one_timed (g.K.Sink.received c.args.out.now) (g.K.Sink.received c.take-taken.new.out) c.args.self.now
     c.begin.new.self
@@ -32,7 +32,7 @@ returns-in-Some-clause-told g c =
     c.in-Some.sets c.take-taken.new.self c.args.buffer.now c.take-taken.new.buffer c.args.tick c.args.packet.now
     c.begin.ensures.begun begun_there begun_found refl found (ap (λ (one : Anchoring). one.asked) c.self.view_is)
     (taken_right c.take-taken.result
-    (packet_fault (reception c.in-Some.sets.receiving).pid c.args.packet.now) c.take-taken.ensures.fault right
+    (packet_fault (reception c.in-Some.sets.receiving).pid c.args.packet.now) c.take-taken.ensures.fault faultless
     c.take-taken.ensures.told)
     c.take-taken.ensures.same c.take-taken.ensures.pace in
     elim c.match-self.branch [

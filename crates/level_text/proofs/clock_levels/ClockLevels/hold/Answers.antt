@@ -22,10 +22,10 @@ invariant_of-self c =
     c.hold_own.ensures.held
     ∙ ap (λ (pid : ℕ). held_with (pid_of c.args.packet.now == pid) own.held (own.since + own.waiting) c.args.packet.now)
     c.pid-pid.ensures in
-    let right : packet_fault own.meter.asked.pid c.args.packet.now ≡ None =
+    let faultless : packet_fault own.meter.asked.pid c.args.packet.now ≡ None =
     subst (λ (old : Clocking). packet_fault old.meter.asked.pid c.args.packet.now ≡ None) (sym c.self.view_is)
-    c.requires.right in (
-      more_waits own c.hold_own.new.held.items c.args.packet.now c.self.invariant.0 right held_is
+    c.requires.faultless in (
+      more_waits own c.hold_own.new.held.items c.args.packet.now c.self.invariant.0 faultless held_is
           (subst (λ (old : Clocking). old.since + old.waiting < MOST_BETWEEN) (sym c.self.view_is) c.requires.room),
       omega (arith, c.hold_own.ensures.room, c.self.invariant.1),
     )
@@ -44,9 +44,9 @@ returns-clause-told c =
     c.hold_own.ensures.held
     ∙ ap (λ (pid : ℕ). held_with (pid_of c.args.packet.now == pid) own.held (own.since + own.waiting) c.args.packet.now)
     c.pid-pid.ensures in
-    let right : packet_fault own.meter.asked.pid c.args.packet.now ≡ None =
+    let faultless : packet_fault own.meter.asked.pid c.args.packet.now ≡ None =
     subst (λ (old : Clocking). packet_fault old.meter.asked.pid c.args.packet.now ≡ None) (sym c.self.view_is)
-    c.requires.right in
+    c.requires.faultless in
     subst (λ (old : Clocking). Holds old (record {
       meter = c.self.inside.meter;
       held = c.hold_own.new.held.items;
@@ -55,4 +55,4 @@ returns-clause-told c =
       waiting = c.self.inside.waiting + 1;
     }) c.args.packet.now) c.self.view_is
     (one_waits own c.hold_own.new.held.items c.args.packet.now
-    (record { bytes = bytes_of c.args.packet.now c.fits-packet; right = right }) held_is)
+    (record { bytes = bytes_of c.args.packet.now c.fits-packet; faultless = faultless }) held_is)

@@ -33,10 +33,10 @@ returns-clause-blocks c =
     ap (λ v. v.items) c.lead.ensures.coded ∙ c.in_ok-push.ensures.items in
     let last : c.len-last.result ≡ length c.args.self.now.coded.items = search rules in
     record {
-      right =
+      coded =
           one_more c.args.pictures.now c.args.picture.now c.args.number c.args.region coded.coded
           c.args.self.now.coded.items c.lead.new.self.coded.items c.requires.picture coded.ensures.number
-          coded.ensures.region coded.ensures.coded c.requires.blocks.right pushed;
+          coded.ensures.region coded.ensures.coded c.requires.blocks.coded pushed;
       each = c.lead.ensures.each ∙ c.requires.blocks.each;
       led =
           more_led c.args.self.now.slots.items c.lead.new.self.slots.items coded.coded c.args.self.now.coded.items
