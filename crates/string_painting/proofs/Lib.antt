@@ -7,3 +7,4 @@ mod Places
 mod Codes
 mod Strings
 mod Halves
+mod Pairs

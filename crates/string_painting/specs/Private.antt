@@ -4,3 +4,4 @@ pub mod Reading
 pub mod Columns
 pub mod Strings
 pub mod Spelling
+pub mod Pairs

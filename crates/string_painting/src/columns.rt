@@ -1,9 +1,9 @@
 //! Columns of a packed row that get one code.
 
-ghost use Rattle.std.specs.Prelude.{◌≡◌, ℕ, ◌+◌, ◌*◌, ◌/◌, ◌<◌, ◌≤◌, ◌⊎◌, length, slice_index};
+ghost use Rattle.std.specs.Prelude.{◌≡◌, ℕ, ◌+◌, ◌*◌, ◌/◌, ◌%◌, ◌^◌, ◌<◌, ◌≤◌, ◌⊎◌, length, slice_index};
 ghost use Rattle.sub_base.specs.Depth.{code_count};
 ghost use Rattle.string_painting.specs.Codes.{codes_in_byte};
-ghost use Rattle.string_painting.specs.Private.Columns.{PaintsColumns};
+ghost use Rattle.string_painting.specs.Private.Columns.{PaintsColumns, PaintsPair};
 
 use crate::packing::{codes_over, codes_per_byte, painted, painted_once, pattern, whole_bytes};
 use sub_base::Depth;
@@ -91,4 +91,37 @@ pub(crate) fn paint_column(row: &mut [u8], region: Depth, x: usize, code: u8)
 {
     let index = whole_bytes(region, x);
     row[index] = painted_once(region, row[index], codes_over(region, x), code);
+}
+
+/// Paints two columns, the first of which is `x`, by one load and one store where both lie in the
+/// same byte.
+#[inline(always)]
+pub(crate) fn paint_pair(row: &mut [u8], region: Depth, x: usize, first: u8, second: u8)
+    requires x { x + 1 < length row.old * codes_in_byte region }
+    requires near { x < 2 ^ 16 }
+    requires first { first < code_count region }
+    requires second { second < code_count region }
+    ensures { PaintsPair region x first second row.old row.new }
+{
+    if codes_over(region, x) + 1 < codes_per_byte(region) {
+        paint_pair_in_byte(row, region, x, first, second);
+    } else {
+        paint_column(row, region, x, first);
+        paint_column(row, region, x + 1, second);
+    }
+}
+
+// Paints two columns of one byte.
+#[inline(always)]
+fn paint_pair_in_byte(row: &mut [u8], region: Depth, x: usize, first: u8, second: u8)
+    requires x { x + 1 < length row.old * codes_in_byte region }
+    requires room { x % codes_in_byte region + 1 < codes_in_byte region }
+    requires first { first < code_count region }
+    requires second { second < code_count region }
+    ensures { PaintsPair region x first second row.old row.new }
+{
+    let index = whole_bytes(region, x);
+    let over = codes_over(region, x);
+    let byte = painted_once(region, row[index], over, first);
+    row[index] = painted_once(region, byte, over + 1, second);
 }

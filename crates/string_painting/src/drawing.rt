@@ -1,13 +1,14 @@
 //! The pixels of one code.
 
-ghost use Rattle.std.specs.Prelude.{◌≡◌, ◌+◌, ◌*◌, ◌<◌, ◌≤◌, length, min, replicate};
+ghost use Rattle.std.specs.Prelude.{◌≡◌, ◌+◌, ◌*◌, ◌<◌, ◌≤◌, false, length, min, replicate};
 ghost use Rattle.sub_base.specs.Depth.{code_count};
 ghost use Rattle.string_painting.specs.Codes.{codes_in_byte};
 ghost use Rattle.string_painting.specs.Painting.{region_code as code_in_region, IsMapTable, laid_over, LaysPixels};
 ghost use Rattle.string_painting.specs.Private.Columns.{PaintsColumns};
+ghost use Rattle.string_painting.specs.Private.Pairs.{LaysPair};
 ghost use Rattle.string_painting.specs.Private.Packing.{half_of};
 
-use crate::columns::{paint_column, paint_columns};
+use crate::columns::{paint_column, paint_columns, paint_pair};
 use sub_base::Depth;
 
 /// How the pixels of a string are laid over those of a region.
@@ -113,4 +114,27 @@ pub(crate) fn lay_pixels(
     }
     let code = region_code(brush, table, read);
     paint_run(row, brush.region, place, count, code);
+}
+
+/// Lays two single pixels over a column and the one behind it, both of the region.
+#[inline(always)]
+pub(crate) fn lay_pair(
+    row: &mut [u8],
+    place: RowPlace,
+    brush: Brush,
+    table: &[u8],
+    first: u8,
+    second: u8,
+)
+    requires width { place.width ≤ length row.old * codes_in_byte brush.region }
+    requires table { IsMapTable brush table.now }
+    requires first { first < code_count brush.string }
+    requires second { second < code_count brush.string }
+    requires seen { brush.see_through ≡ false }
+    requires room { place.x + 1 < place.width }
+    ensures { LaysPair brush table.now place first second row.old row.new }
+{
+    let before = region_code(brush, table, first);
+    let behind = region_code(brush, table, second);
+    paint_pair(row, brush.region, place.x as usize, before, behind);
 }

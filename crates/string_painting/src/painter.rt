@@ -1,12 +1,15 @@
 //! A string painted from its first code to its end.
 
-ghost use Rattle.std.specs.Prelude.{◌≡◌, ℕ, ◌+◌, ◌*◌, ◌^◌, ◌<◌, ◌≤◌, List, ◌++◌, length};
+ghost use Rattle.std.specs.Prelude.{◌≡◌, ℕ, ◌+◌, ◌*◌, ◌^◌, ◌<◌, ◌≤◌, List, ◌++◌, length, IfSome};
+ghost use Rattle.sub_base.specs.Depth.{code_count};
 ghost use Rattle.stream_syntax.specs.PixelCodes.{Code, IsString};
 ghost use Rattle.string_painting.specs.Codes.{codes_in_byte, packed_code};
 ghost use Rattle.string_painting.specs.Painting.{IsMapTable, laid_over, LaysPixels, pixels_of_codes};
+ghost use Rattle.string_painting.specs.Private.Pairs.{IsBehind, LaysOn};
 ghost use Rattle.string_painting.specs.Private.Strings.{PaintsString};
 
-use crate::drawing::{Brush, RowPlace, lay_pixels};
+use crate::drawing::{Brush, RowPlace, lay_pair, lay_pixels};
+use crate::field::field;
 use crate::packing::started_bytes;
 use crate::token::read_token;
 use code_strings::Token;
@@ -126,9 +129,9 @@ fn paint_codes(
                     width: start.width,
                     x,
                 };
-                lay_pixels(row, pen, brush, table, length, code);
-                x += length;
-                place = next;
+                let further = lay_on(row, pen, string, brush, table, length, code, next);
+                x += length + further;
+                place = next + further as usize;
             }
         }
     }
@@ -136,4 +139,52 @@ fn paint_codes(
         size: string.len(),
         x,
     }
+}
+
+/// Lays the pixels of a code that ends before field `next`, and with a single pixel the one of the
+/// code behind it, if that gives one too: most codes of smoothed text stand so. Answers how many
+/// codes it laid behind the first.
+#[inline(always)]
+fn lay_on(
+    row: &mut [u8],
+    pen: RowPlace,
+    string: &[u8],
+    brush: Brush,
+    table: &[u8],
+    count: u32,
+    read: u8,
+    next: usize,
+) -> u32
+    requires width { pen.width ≤ length row.old * codes_in_byte brush.region }
+    requires table { IsMapTable brush table.now }
+    requires code { read < code_count brush.string }
+    ensures laid { LaysOn brush table.now string.now pen count read next result row.old row.new }
+    ensures few { result ≤ 1 }
+{
+    match single_behind(string, pen, brush, count, next) {
+        Some(second) => {
+            lay_pair(row, pen, brush, table, read, second);
+            1
+        }
+        None => {
+            lay_pixels(row, pen, brush, table, count, read);
+            0
+        }
+    }
+}
+
+/// The code of a single pixel at field `next` that may be laid at once with the one that ends
+/// before: both lie in the region, and nothing is seen through.
+#[inline(always)]
+fn single_behind(string: &[u8], pen: RowPlace, brush: Brush, count: u32, next: usize) -> Option<u8>
+    ensures { IfSome result (IsBehind brush string.now pen count next) }
+{
+    if count != 1 || brush.see_through || pen.x as usize + 1 >= usize::from(pen.width) {
+        return None;
+    }
+    let second = field(string, next, brush.string)?;
+    if second == 0 {
+        return None;
+    }
+    Some(second)
 }
