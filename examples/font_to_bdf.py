@@ -13,9 +13,12 @@ Extended-A, Greek, Cyrillic, and the usual signs. More can be named behind ROWS,
 import os
 import sys
 
-from PIL import Image, ImageDraw, ImageFont
-
 from subtitles.truetype import characters_of
+
+try:
+    from PIL import Image, ImageDraw, ImageFont
+except ImportError:
+    sys.exit(f"{os.path.basename(sys.argv[0])} wants Pillow (Debian: python3-pil), for this python3")
 
 CHARACTERS = ["20-7E", "A0-17F", "192", "218-21B", "2C6-2C7", "2D8-2DD", "384-38A", "38C-3CE", "400-45F", "490-491",
               "2010-2015", "2018-201E", "2020-2022", "2026", "2030", "2032-2033", "2039-203A", "20AC", "2116", "2122",

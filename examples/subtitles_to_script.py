@@ -80,10 +80,15 @@ def is_between(asked, name, least, most):
         raise ValueError(f"--{name.replace('_', '-')} is from {least} to {most}")
 
 
+def numbers_in(words):
+    """The numbers that some words are; none where one of them is no number."""
+    return [int(word) for word in words] if all(word.isdecimal() for word in words) else []
+
+
 def display_of(text):
-    sides = [int(side) for side in text.lower().split("x")]
+    sides = numbers_in(text.lower().split("x"))
     if len(sides) != 2 or min(sides) < 64:
-        raise ValueError(f"--display {text}")
+        raise ValueError(f"--display {text}: WIDTHxHEIGHT is wanted, each 64 or more")
     return tuple(sides)
 
 
@@ -107,9 +112,9 @@ def wishes_of(asked):
 
 def time_of(text, rate):
     """The seconds of a time code."""
-    parts = [int(part) for part in text.split(":")]
+    parts = numbers_in(text.split(":"))
     if len(parts) not in (3, 4):
-        raise ValueError(f"--start {text}")
+        raise ValueError(f"--start {text}: HH:MM:SS or HH:MM:SS:FF is wanted")
     whole = (parts[0] * 60 + parts[1]) * 60 + parts[2]
     return Fraction(whole) + (Fraction(parts[3], round(rate)) if len(parts) == 4 else 0)
 
@@ -168,10 +173,11 @@ def main():
         wishes.style = face.style
         texts, report = convert(cues, face, wishes, report)
         names = written(asked.output, texts)
+        tell(asked, wishes, name, cues, texts, names, report)
+        is_taken = not asked.program or tried(asked, names, texts)
     except (OSError, ValueError, LookupError, readers.FormatFault, FontFault, Unfit) as fault:
         sys.exit(f"{os.path.basename(sys.argv[0])}: {fault}")
-    tell(asked, wishes, name, cues, texts, names, report)
-    if asked.program and not tried(asked, names, texts):
+    if not is_taken:
         sys.exit(1)
 
 

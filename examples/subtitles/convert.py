@@ -94,7 +94,8 @@ def convert(cues, face, wishes, report=None):
     cues = usable(cues, wishes.start, report)
     layout, steps, report = with_room(cues, face, wishes, clock, report)
     if not steps:
-        raise Unfit("there is no cue with text")
+        begun = f" that ends after the first frame's time, {stamp(wishes.start)}: --start names another" if wishes.start else ""
+        raise Unfit(f"there is no cue with text{begun}")
     for refresh in range(wishes.refresh, LONGEST_REFRESH + 1):
         own = report.copy()
         try:
