@@ -188,6 +188,11 @@ fn faults_of_times_are_told(rt: HostRuntime) {
             "; it lies 10000 ticks before it",
         ),
         (
+            "place,180000,180000,0,0,0,solid,a",
+            ScriptKind::EmptySpan,
+            "; the two are one tick",
+        ),
+        (
             "place,90000,54090001,0,0,0,solid,a",
             ScriptKind::TooLong,
             "; this one lasts 54000001",

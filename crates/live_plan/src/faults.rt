@@ -55,7 +55,7 @@ pub enum LiveFault {
     #[error("the font is refused: {0}")]
     Font(FontFault),
     /// The script ended, and no epoch's record was accepted.
-    #[error("no epoch was accepted")]
+    #[error("the script has ended, and no epoch was accepted")]
     NoEpoch,
 }
 

@@ -18,7 +18,7 @@ pub enum PairFault {
     #[error("the second script: {0}")]
     SecondScript(ScriptFault),
     /// The records of this number, of the first three, differ: origin, display or refresh.
-    #[error("the records {row} of the scripts differ")]
+    #[error("record {row} differs in the two scripts")]
     Heads { row: u8 },
     /// The first script has no plan.
     #[error("the first script: {0}")]
@@ -27,11 +27,11 @@ pub enum PairFault {
     #[error("the second script: {0}")]
     SecondPlan(PlanFault),
     /// The plans have not both a set of one time and one state at this place.
-    #[error("the plans have not both a set {set} of one time and one state")]
+    #[error("the two plans have not both a set {set}, or not of one time and state")]
     Uneven { set: u64 },
     /// The segments of the set of both at this place have no room in one PES packet; the size is
     /// that of the PES packet, in bytes.
-    #[error("the PES packet of set {set} of both would have {size} bytes")]
+    #[error("set {set} of both together needs a PES packet of {size} bytes")]
     TooLong { set: u64, size: u64 },
     /// The set that this record of the first script brings has no slots.
     #[error("the set of record {row} is refused: {fault}")]

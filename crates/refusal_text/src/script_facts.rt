@@ -265,6 +265,7 @@ fn put_span(told: &mut Text, case: &Case<'_>) -> Result<(), NoMemory> {
             Part::Words("; this one lasts "),
             Part::Number(end - start),
         ]),
+        (Some(start), Some(end)) if start == end => told.put_words("; the two are one tick"),
         (Some(start), Some(end)) => told.say(&[
             Part::Words("; it lies "),
             Part::Number(start.saturating_sub(end)),

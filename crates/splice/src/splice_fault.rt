@@ -34,13 +34,13 @@ pub enum SpliceFault {
     NoModeChange,
     /// The first stream's last set before the cut, at this tick of 90 kHz, lies 3,600 ticks or less
     /// before it.
-    #[error("the last set before the cut, at {last}, is too close to it")]
+    #[error("the last set before the cut, at {last}, lies 3600 ticks or less before it")]
     CutTooClose {
         last: u64,
     },
     /// The first stream's last set before the cut, at this tick of 90 kHz, lies 2^32 ticks or more
     /// before it.
-    #[error("the last set before the cut, at {last}, is too far from it")]
+    #[error("the last set before the cut, at {last}, lies 2^32 ticks or more before it")]
     CutTooFar {
         last: u64,
     },

@@ -1,10 +1,11 @@
 ghost use Rattle.tool_files.specs.Ends.{IsCodeOf};
 
+use crate::reasons::{FileNames, explain};
 use crate::telling::tell_on;
-use command_words::InputPlaces;
-use program_files::{Output, numbers_of, opened, output_name, tool_ended, word_at};
+use program_files::{Output, numbers_of, opened, output_name, tool_ended};
+use std::fmt::Display;
 use std::fs::File;
-use sub_base::{FaultName, FileSource, ToolStatus, Words};
+use sub_base::{FaultName, FileSource, ToolStatus, Which};
 
 /// The files of a tool: its inputs, of which there may be none at a place, and its output. When
 /// that is made, and when it takes the place of what was there, is said at `Output`.
@@ -16,9 +17,9 @@ pub(crate) struct ToolFiles<'a> {
 }
 
 impl<'a> ToolFiles<'a> {
-    /// Opens the inputs that stand at these places of the words. The output is an `Output::whole`.
-    pub(crate) fn of(rt: &'a HostRuntime, words: &'a Words, places: InputPlaces) -> ToolFiles<'a> {
-        let opened = Opened::at(rt, words, places);
+    /// Opens the inputs of these names. The output is an `Output::whole`.
+    pub(crate) fn of(rt: &'a HostRuntime, names: FileNames<'a>) -> ToolFiles<'a> {
+        let opened = Opened::at(rt, names);
         let output = Output::whole(
             rt,
             opened.out,
@@ -29,12 +30,8 @@ impl<'a> ToolFiles<'a> {
     }
 
     /// The same with an `Output::as_it_comes`.
-    pub(crate) fn as_it_comes(
-        rt: &'a HostRuntime,
-        words: &'a Words,
-        places: InputPlaces,
-    ) -> ToolFiles<'a> {
-        let opened = Opened::at(rt, words, places);
+    pub(crate) fn as_it_comes(rt: &'a HostRuntime, names: FileNames<'a>) -> ToolFiles<'a> {
+        let opened = Opened::at(rt, names);
         let output = Output::as_it_comes(
             rt,
             opened.out,
@@ -54,13 +51,13 @@ struct Opened<'a> {
 }
 
 impl<'a> Opened<'a> {
-    fn at(rt: &HostRuntime, words: &'a Words, places: InputPlaces) -> Opened<'a> {
-        let first_name = word_at(words, places.first);
-        let second_name = word_at(words, places.second);
+    fn at(rt: &HostRuntime, names: FileNames<'a>) -> Opened<'a> {
+        let first_name = names.of(Which::First);
+        let second_name = names.of(Which::Second);
         Opened {
             first: opened(rt, first_name),
             second: opened(rt, second_name),
-            out: output_name(word_at(words, places.out), first_name, second_name),
+            out: output_name(names.of(Which::Out), first_name, second_name),
         }
     }
 
@@ -73,15 +70,18 @@ impl<'a> Opened<'a> {
     }
 }
 
-/// Keeps or gives up the output by the status of the tool, and tells the status. Answers its code.
+/// Keeps or gives up the output by the status of the tool, and tells the status, with a sentence
+/// where the tool was not done. Answers its code.
 #[tactic(auto, using(crate::proofs::EndLaws::ending_told))]
-pub(crate) fn end<F: FaultName + Copy>(
+pub(crate) fn end<F: FaultName + Display + Copy>(
     rt: &HostRuntime,
+    names: FileNames<'_>,
     output: &mut Output<'_>,
     status: ToolStatus<F>,
 ) -> u8
     ensures { IsCodeOf output.old.has_written status result }
 {
     let status = tool_ended(output, status);
+    explain(rt, names, status, output.is_refused());
     tell_on(rt, status, output.is_standard_output())
 }

@@ -15,6 +15,7 @@ mod reports;
 mod streams;
 
 // What is told on standard output and standard error.
+mod reasons;
 mod table;
 mod telling;
 

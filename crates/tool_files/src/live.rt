@@ -1,6 +1,7 @@
 ghost use Rattle.tool_files.specs.Ends.{MayEndLive};
 
 use crate::files::ToolFiles;
+use crate::reasons::{FileNames, explain};
 use crate::telling::code_of;
 use live_plan::{live_inputs, live_top};
 use std::io;
@@ -12,7 +13,7 @@ use sub_base::{FileSink, Sink, Words};
 pub(crate) fn live<'a>(rt: &'a HostRuntime, words: &'a Words) -> u8
     ensures { MayEndLive words.now result }
 {
-    let files = ToolFiles::as_it_comes(rt, words, live_inputs(words));
+    let files = ToolFiles::as_it_comes(rt, names_of(words));
     if files.output.is_standard_output() {
         send(rt, words, files, &mut FileSink::make(Some(rt.stderr())))
     } else {
@@ -42,5 +43,14 @@ fn send<'a, N: Sink>(
         &mut FileSink::make(Some(&mut output)),
         notes,
     );
+    explain(rt, names_of(words), status, output.is_refused());
     code_of(rt, status)
+}
+
+/// The names of the script, the font and the output.
+fn names_of(words: &Words) -> FileNames<'_> {
+    FileNames {
+        words,
+        places: live_inputs(words),
+    }
 }

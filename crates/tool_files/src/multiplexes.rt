@@ -5,6 +5,7 @@ ghost use Rattle.service_mux.specs.TakeWords.{take_words};
 ghost use Rattle.tool_files.specs.Ends.{MayToolEnd};
 
 use crate::files::{ToolFiles, end};
+use crate::reasons::FileNames;
 use service_mux::{mux_inputs, mux_top, take_inputs, take_top};
 use std::io;
 use sub_base::{FileSink, Words};
@@ -13,11 +14,15 @@ use sub_base::{FileSink, Words};
 pub(crate) fn mux<'a>(rt: &'a HostRuntime, words: &'a Words) -> u8
     ensures { MayToolEnd mux_causes (mux_words words.now) result }
 {
+    let names = FileNames {
+        words,
+        places: mux_inputs(words),
+    };
     let ToolFiles {
         mut first,
         mut second,
         mut output,
-    } = ToolFiles::of(rt, words, mux_inputs(words));
+    } = ToolFiles::of(rt, names);
     let status = mux_top(
         rt.alloc(),
         words,
@@ -26,18 +31,22 @@ pub(crate) fn mux<'a>(rt: &'a HostRuntime, words: &'a Words) -> u8
         &mut FileSink::make(Some(&mut output)),
         &mut FileSink::make(Some(io::sink())),
     );
-    end(rt, &mut output, status)
+    end(rt, names, &mut output, status)
 }
 
 /// Takes a service out of a multiplex.
 pub(crate) fn take<'a>(rt: &'a HostRuntime, words: &'a Words) -> u8
     ensures { MayToolEnd take_causes (take_words words.now) result }
 {
+    let names = FileNames {
+        words,
+        places: take_inputs(words),
+    };
     let ToolFiles {
         mut first,
         second: _,
         mut output,
-    } = ToolFiles::of(rt, words, take_inputs(words));
+    } = ToolFiles::of(rt, names);
     let status = take_top(
         rt.alloc(),
         words,
@@ -45,5 +54,5 @@ pub(crate) fn take<'a>(rt: &'a HostRuntime, words: &'a Words) -> u8
         &mut FileSink::make(Some(&mut output)),
         &mut FileSink::make(Some(io::sink())),
     );
-    end(rt, &mut output, status)
+    end(rt, names, &mut output, status)
 }

@@ -11,6 +11,7 @@ ghost use Rattle.stream_report.specs.PidsWords.{pids_words};
 ghost use Rattle.tool_files.specs.Ends.{MayToolEnd};
 
 use crate::files::{ToolFiles, end};
+use crate::reasons::FileNames;
 use std::io;
 use std::thread::Threads;
 use stream_report::{
@@ -27,11 +28,15 @@ pub(crate) fn pictures<'a, T: Threads + Sync>(
 ) -> u8
     ensures { MayToolEnd pictures_causes (pictures_words words.now) result }
 {
+    let names = FileNames {
+        words,
+        places: pictures_inputs(words),
+    };
     let ToolFiles {
         mut first,
         second: _,
         mut output,
-    } = ToolFiles::of(rt, words, pictures_inputs(words));
+    } = ToolFiles::of(rt, names);
     let status = pictures_top(
         threads,
         rt.alloc(),
@@ -41,18 +46,22 @@ pub(crate) fn pictures<'a, T: Threads + Sync>(
         &mut FileSink::make(Some(io::sink())),
         &NoGate,
     );
-    end(rt, &mut output, status)
+    end(rt, names, &mut output, status)
 }
 
 /// Tells why sets of a stream are not shown.
 pub(crate) fn faults<'a>(rt: &'a HostRuntime, words: &'a Words) -> u8
     ensures { MayToolEnd faults_causes (faults_words words.now) result }
 {
+    let names = FileNames {
+        words,
+        places: faults_inputs(words),
+    };
     let ToolFiles {
         mut first,
         second: _,
         mut output,
-    } = ToolFiles::of(rt, words, faults_inputs(words));
+    } = ToolFiles::of(rt, names);
     let status = faults_top(
         rt.alloc(),
         words,
@@ -60,18 +69,22 @@ pub(crate) fn faults<'a>(rt: &'a HostRuntime, words: &'a Words) -> u8
         &mut FileSink::make(Some(&mut output)),
         &mut FileSink::make(Some(io::sink())),
     );
-    end(rt, &mut output, status)
+    end(rt, names, &mut output, status)
 }
 
 /// Tells the levels of a receiver's coded data buffer, by the stream's own clock.
 pub(crate) fn levels<'a>(rt: &'a HostRuntime, words: &'a Words) -> u8
     ensures { MayToolEnd levels_causes (levels_words words.now) result }
 {
+    let names = FileNames {
+        words,
+        places: levels_inputs(words),
+    };
     let ToolFiles {
         mut first,
         second: _,
         mut output,
-    } = ToolFiles::of(rt, words, levels_inputs(words));
+    } = ToolFiles::of(rt, names);
     let status = levels_top(
         rt.alloc(),
         words,
@@ -79,18 +92,22 @@ pub(crate) fn levels<'a>(rt: &'a HostRuntime, words: &'a Words) -> u8
         &mut FileSink::make(Some(&mut output)),
         &mut FileSink::make(Some(io::sink())),
     );
-    end(rt, &mut output, status)
+    end(rt, names, &mut output, status)
 }
 
 /// Tells the PIDs of a stream that have subtitles, with their pages and services.
 pub(crate) fn pids<'a>(rt: &'a HostRuntime, words: &'a Words) -> u8
     ensures { MayToolEnd pids_causes (pids_words words.now) result }
 {
+    let names = FileNames {
+        words,
+        places: pids_inputs(words),
+    };
     let ToolFiles {
         mut first,
         second: _,
         mut output,
-    } = ToolFiles::of(rt, words, pids_inputs(words));
+    } = ToolFiles::of(rt, names);
     let status = pids_top(
         rt.alloc(),
         words,
@@ -98,5 +115,5 @@ pub(crate) fn pids<'a>(rt: &'a HostRuntime, words: &'a Words) -> u8
         &mut FileSink::make(Some(&mut output)),
         &mut FileSink::make(Some(io::sink())),
     );
-    end(rt, &mut output, status)
+    end(rt, names, &mut output, status)
 }

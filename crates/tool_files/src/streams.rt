@@ -4,6 +4,7 @@ ghost use Rattle.splice.specs.SpliceWords.{splice_words};
 ghost use Rattle.tool_files.specs.Ends.{MayToolEnd};
 
 use crate::files::{ToolFiles, end};
+use crate::reasons::FileNames;
 use command_words::InputPlaces;
 use page_pair::pair_top;
 use splice::{splice_inputs, splice_top};
@@ -21,11 +22,12 @@ pub(crate) fn pair<'a, T: Threads + Sync>(
 ) -> u8
     ensures { MayToolEnd (tool_causes words.now) (pair_command words.now) result }
 {
+    let names = FileNames { words, places };
     let ToolFiles {
         mut first,
         mut second,
         mut output,
-    } = ToolFiles::of(rt, words, places);
+    } = ToolFiles::of(rt, names);
     let status = pair_top(
         threads,
         rt.alloc(),
@@ -36,18 +38,22 @@ pub(crate) fn pair<'a, T: Threads + Sync>(
         &mut FileSink::make(Some(io::sink())),
         &NoGate,
     );
-    end(rt, &mut output, status)
+    end(rt, names, &mut output, status)
 }
 
 /// Joins two streams at a cut.
 pub(crate) fn join<'a>(rt: &'a HostRuntime, words: &'a Words) -> u8
     ensures { MayToolEnd splice_causes (splice_words words.now) result }
 {
+    let names = FileNames {
+        words,
+        places: splice_inputs(words),
+    };
     let ToolFiles {
         mut first,
         mut second,
         mut output,
-    } = ToolFiles::of(rt, words, splice_inputs(words));
+    } = ToolFiles::of(rt, names);
     let status = splice_top(
         rt.alloc(),
         words,
@@ -56,5 +62,5 @@ pub(crate) fn join<'a>(rt: &'a HostRuntime, words: &'a Words) -> u8
         &mut FileSink::make(Some(&mut output)),
         &mut FileSink::make(Some(io::sink())),
     );
-    end(rt, &mut output, status)
+    end(rt, names, &mut output, status)
 }
