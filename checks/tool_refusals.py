@@ -72,7 +72,7 @@ def main():
         make(folder)
         for words, line, sentence, status in cases():
             said = subprocess.run([tools, *words], cwd=folder, stdout=subprocess.PIPE, stderr=subprocess.PIPE, text=True, check=False)
-            found = (lines_of(said.stdout), lines_of(said.stderr), said.returncode)
+            found = (said.stdout.splitlines(), said.stderr.splitlines(), said.returncode)
             # `live` has a line for each refused record before the last one.
             good = found[0][-1:] == [line] and found[1] == ([sentence] if sentence else []) and found[2] == status
             runs += 1
@@ -81,10 +81,6 @@ def main():
                 print(f"{' '.join(words)}: {found}, and not {line!r}, {sentence!r}, {status}")
     print(f"{runs} runs, {wrong} wrong")
     sys.exit(1 if wrong else 0)
-
-
-def lines_of(text):
-    return text.splitlines()
 
 
 if __name__ == "__main__":
